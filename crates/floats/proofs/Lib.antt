@@ -1,0 +1,16 @@
+pub mod Patterns
+pub mod Nan
+pub mod Signs
+pub mod Exact
+pub mod Values
+pub mod Floors
+pub mod Casts
+pub mod FloorRoot
+pub mod RootBySquares
+pub mod RootCases
+pub mod Below
+pub mod Entries
+pub mod Shifts
+pub mod Mixing
+pub mod PowerCases
+pub mod PowerReview

@@ -1,0 +1,52 @@
+use mathlib.Core.Path.{_≡_, refl, sym, subst, ap}
+use mathlib.Core.Bool.{Bool, false, not, _&&_}
+use Prim.Native.Nat.{ℕ, _*_, _/_, _%_, _^_, _<_, _≤_}
+use native.Mathlib.Omega.{arith}
+use native.Mathlib.Nat.{mul-mod-left}
+use lib.Dec.{T, eqb, le→leb}
+use lib.Ieee.{Float, nan, binary32, fits, toBits, isNan, nanBits, inFloat, hid}
+use lib.Ieee.Bits.{toBits-lt}
+use borrow.Author.Needs.{needs}
+use Rattle.floats.specs.Pattern.{splitOf}
+use Rattle.floats.proofs.Signs.{no-nan, is-nan, nan-is-nan}
+use Rattle.floats.proofs.pattern.split.Statement.{statement}
+use Rattle.floats.proofs.pattern.split.Tie as tie
+
+held : (c : tie.Start) → T (fits binary32 (c .args .x))
+held c = subst T (sym (c .good .0 .1)) tt
+
+-- a pattern whose 23 low digits are 0 is no NaN's
+clean : (k : ℕ) → nanBits binary32 (k * 8388608) ≡ false
+unfolding nanBits
+clean k = rw (mul-mod-left k 8388608) (and-false (eqb (k * 8388608 % 2147483648 / 8388608) 255))
+  where
+    and-false : (b : Bool) → (b && false) ≡ false
+    and-false mathlib.Core.Bool.true = refl
+    and-false mathlib.Core.Bool.false = refl
+
+float-to-bits-biased : tie.Need-float-to-bits-biased
+float-to-bits-biased c = rw (no-nan _ (c .if1 .left)) tt
+
+sub-scale : tie.Need-sub-scale
+sub-scale c = omega (arith, toBits-lt binary32 _ (held (c .before)))
+
+mul-scale : tie.Need-mul-scale
+mul-scale c = search needs
+
+float-from-bits-scale : tie.Need-float-from-bits-scale
+float-from-bits-scale c = rw clean tt
+
+int-to-float-t9 : tie.Need-int-to-float-t9
+unfolding inFloat
+int-to-float-t9 c = le→leb (toBits binary32 (c .before .before .args .x) / 8388608) 16777216 (omega (arith, toBits-lt binary32 _ (held (c .before .before))))
+
+returns : tie.Need-returns
+unfolding splitOf
+returns c = rw (is-nan _ (c .if1 .taken), nan-is-nan)
+
+returns-2 : tie.Need-returns-2
+unfolding splitOf
+returns-2 c = rw (no-nan _ (c .before .if1 .left))
+
+pub split-spec : {M : Type 1} → statement M
+split-spec = tie.close (tie.spec float-to-bits-biased sub-scale mul-scale float-from-bits-scale int-to-float-t9 returns returns-2)

@@ -1,0 +1,28 @@
+-- A finite f32 by its bit pattern b: its size is significandOf b * 2 ^ exponentOf b times 2 ^ -149, the smallest f32 above zero. Definitions only.
+use Prim.Native.Nat.{ℕ, _+_, _-_, _*_, _/_, _%_, _^_}
+use mathlib.Core.Bool.{cond}
+use lib.IntN.{pos}
+use lib.Dec.{eqb}
+use lib.Ieee as Ieee
+use lib.Ieee.{Float, nan, binary32}
+use Rattle.floats.specs.declared.pattern.Parts.{Parts}
+use Rattle.floats.specs.F32.{_⊖_, _⊗_, bits}
+
+-- the exponent's field
+abbrev pub fieldOf : ℕ → ℕ
+fieldOf b = b % 2147483648 / 8388608
+
+-- the digits, with the leading one that a field above 0 stands for
+abbrev pub significandOf : ℕ → ℕ
+significandOf b = cond (eqb (fieldOf b) 0) (b % 8388608) (8388608 + b % 8388608)
+
+-- fields 0 and 1 both stand for place 0
+abbrev pub exponentOf : ℕ → ℕ
+exponentOf b = fieldOf b - 1
+
+-- `split`: the biased exponent's float, the sign with it, less 127, and x times a power of two; both NaN for a NaN
+unfoldable pub splitOf : Float → Parts
+splitOf x =
+    let biased = Ieee.toBits binary32 x / 2 ^ 23 in
+    cond (Ieee.isNan x) (record { exponent = nan; mantissa = nan })
+    (record { exponent = Ieee.ofInt binary32 (pos biased) ⊖ bits 0x42fe_0000; mantissa = x ⊗ bits ((766 - biased) % 512 * 0x80_0000) })

@@ -1,0 +1,59 @@
+-- The square root of an f32: the f32 nearest the exact root, ties to even, said with whole-number squares. Definitions only.
+-- A positive finite f32 is n smallest values, n / 2 ^ 149. Its root, in units of 2 ^ -149 again, is the root of sq = n * 2 ^ 149.
+-- `BySquares` says by squares alone which q * 2 ^ k is nearest that root. `rootUnits` computes it, and proofs/RootBySquares.antt shows that it meets `BySquares`
+-- (`root-squares`), and that whatever q and k meet it are the same f32 (`root-only`).
+use mathlib.Core.Path.{_≡_}
+use Prim.Native.Nat.{ℕ, zero, suc, _+_, _-_, _*_, _/_, _%_, _^_, _≤_, compare}
+use mathlib.Core.Bool.{Bool, true, false, cond}
+use lib.Dec.{leb}
+use lib.Ieee.{Float, nan, inf, fin, up, down, size, nearest, odd}
+
+-- q * 2 ^ k is nearest the root of sq. From 2 ^ 23 * 2 ^ k up to 2 ^ 24 * 2 ^ k the numbers of 24 digits are the multiples of 2 ^ k: the root is not below the first of them,
+-- q is not above the last, and the root lies from (q - 1/2) * 2 ^ k to (q + 1/2) * 2 ^ k, each side doubled and squared. Where it lies on an end, q is even.
+pub record BySquares (sq q k : ℕ) : Type 0 where
+  pub place : 2 ^ 46 * 2 ^ (k + k) ≤ sq
+  pub least : 2 ^ 23 ≤ q
+  pub most : q ≤ 2 ^ 24
+  pub above : (2 * q - 1) * (2 * q - 1) * 2 ^ (k + k) ≤ 4 * sq
+  pub under : 4 * sq ≤ (2 * q + 1) * (2 * q + 1) * 2 ^ (k + k)
+  pub tie-above : (2 * q - 1) * (2 * q - 1) * 2 ^ (k + k) ≡ 4 * sq → q % 2 ≡ 0
+  pub tie-under : 4 * sq ≡ (2 * q + 1) * (2 * q + 1) * 2 ^ (k + k) → q % 2 ≡ 0
+
+-- r, or r + 1 where the square of that is still at most n
+abbrev pub upTo : ℕ → ℕ → ℕ
+upTo n r = cond (leb ((r + 1) * (r + 1)) n) (r + 1) r
+
+-- the largest r with r * r ≤ n, for an n below 4 ^ d: each pair of n's binary digits gives one digit of r
+unfoldable pub rootIn : ℕ → ℕ → ℕ
+rootIn zero n = 0
+rootIn (suc d) n = upTo n (2 * rootIn d (n / 4))
+
+-- the largest r with r * r ≤ n (`floor-root` of proofs/FloorRoot.antt)
+unfoldable pub isqrt : ℕ → ℕ
+unfolding rootIn
+isqrt n = rootIn (size n) n
+
+-- q, or q + 1: whichever multiple of 2 ^ k, q * 2 ^ k or (q + 1) * 2 ^ k, is nearer the root of sq, and at a tie the even one.
+-- Half way between them lies (2 * q + 1) * 2 ^ k / 2, and four times its square is (2 * q + 1) ^ 2 * 2 ^ (2 * k).
+abbrev pub nearer : ℕ → ℕ → ℕ → ℕ
+nearer sq k q = nearest q (compare (4 * sq) ((2 * q + 1) * (2 * q + 1) * 2 ^ (k + k)))
+
+-- The root of n / 2 ^ 149, n above 0. The whole part s of the root of sq has more than 24 digits; the format keeps 24 of them and drops k.
+unfoldable pub rootUnits : ℕ → Float
+unfolding isqrt size odd
+rootUnits n =
+    let sq = n * 2 ^ 149 in
+    let s = isqrt sq in
+    let k = size s - 24 in
+    odd 24 false (nearer sq k (s / 2 ^ k)) k 149
+
+-- The root of an f32: of a NaN and of what is below zero NaN, of +infinity +infinity, of a zero that zero, -0 of -0. Any other x, m * up e / down e, is
+-- n = m * up e * 2 ^ 149 / down e smallest values, a whole number.
+unfoldable pub sqrtOf : Float → Float
+unfolding rootUnits
+sqrtOf nan = nan
+sqrtOf (inf true) = nan
+sqrtOf (inf false) = inf false
+sqrtOf (fin s zero e) = fin s zero e
+sqrtOf (fin true (suc m) e) = nan
+sqrtOf (fin false (suc m) e) = rootUnits (suc m * up e * 2 ^ 149 / down e)

@@ -1,0 +1,9 @@
+-- The laws of the layout, for the proofs of this crate and of those above it.
+pub mod Index
+pub mod FunctionLaws
+pub mod TableLaws
+pub mod CellLaws
+pub mod KeptLaws
+pub mod EachLaws
+pub mod BufferLaws
+pub mod OrderLaws

@@ -1,0 +1,4 @@
+-- The layout of lent buffers: the definitions that contracts cite. Their laws are in proofs/.
+pub mod Functions
+pub mod Cells
+pub mod Lanes

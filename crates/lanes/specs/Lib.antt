@@ -1,0 +1,3 @@
+pub mod Lane
+pub mod Maths
+pub mod Word

@@ -1,0 +1,80 @@
+// Replays the oracle's stored answers (stdin, a line each) and prints how many of them the library
+// gives: "P of T". The lines are those of `leaf_vectors` of oracle/programs, which has their format.
+mod answer;
+mod random;
+mod text;
+
+use answer::answer;
+use floats::POWERS;
+use libc::STDIN_FILENO;
+use libc::STDOUT_FILENO;
+use random::Run;
+ghost use mathlib.Core.Path.{_≡_};
+ghost use Rattle.floats.specs.Exp2.{entries};
+
+// The lines that are read at the most.
+const LINES: usize = 100000;
+
+struct Tally {
+    passed: u64,
+    total: u64,
+}
+
+// One line: an answer, or a run of random ones, which counts as many as it has and passes whole.
+fn replay(powers: &[u32; 257], table: &[f32; 1025], line: &[u8; 39]) -> Tally
+    requires { ⌜ now powers ≡ entries ⌝ }
+{
+    let op = text::byte(line);
+    let a = text::word(line, 3);
+    let b = text::word(line, 12);
+    let c = text::word(line, 21);
+    let e = text::word(line, 30);
+    if op < 0x80 {
+        let right = answer(powers, table, op, a, b, c) == e;
+        Tally {
+            passed: if right { 1 } else { 0 },
+            total: 1,
+        }
+    } else {
+        let run = Run {
+            op: op - 0x80,
+            seed: a,
+            count: b,
+        };
+        let hash = random::hash(powers, table, run);
+        let right = hash == ((c as u64) << 32) + (e as u64);
+        Tally {
+            passed: if right { b as u64 } else { 0 },
+            total: b as u64,
+        }
+    }
+}
+
+// Counts are kept below 2^63 by the number of lines.
+fn added(t: Tally, more: Tally) -> Tally {
+    Tally {
+        passed: std::num::wrapping_add_u64(t.passed, more.passed),
+        total: std::num::wrapping_add_u64(t.total, more.total),
+    }
+}
+
+fn main() {
+    let powers = POWERS;
+    let table = random::table();
+    let mut tally = Tally {
+        passed: 0,
+        total: 0,
+    };
+    for _ in 0..LINES {
+        let mut line = [0u8; 39];
+        let n = io::read_full(STDIN_FILENO, &mut line);
+        if n < 39 {
+            break;
+        }
+        tally = added(tally, replay(&powers, &table, &line));
+    }
+    io::print_decimal(STDOUT_FILENO, tally.passed);
+    io::write_all(STDOUT_FILENO, b" of ");
+    io::print_decimal(STDOUT_FILENO, tally.total);
+    io::write_all(STDOUT_FILENO, b"\n");
+}

@@ -1,0 +1,91 @@
+// Inputs remade from a seed, and a hash of what they give.
+use crate::answer::answer;
+use floats::nearest_u32;
+ghost use mathlib.Core.Path.{_≡_};
+ghost use Rattle.floats.specs.Exp2.{entries};
+
+// The answers of `op` to `count` draws of three words.
+pub struct Run {
+    pub op: u32,
+    pub seed: u32,
+    pub count: u32,
+}
+
+// The next state of a 32-bit xorshift generator.
+fn next(s: u32) -> u32 {
+    let s = s ^ (s << 13);
+    let s = s ^ (s >> 17);
+    s ^ (s << 5)
+}
+
+// 64-bit FNV-1a, a word at a time: (h ^ word) × 0x100000001b3, wrapping.
+fn folded(h: u64, word: u32) -> u64 {
+    let h = h ^ (word as u64);
+    let low = h % 0x1_0000_0000 * 0x1b3;
+    let high = h / 0x1_0000_0000 % 0x1_0000_0000 * 0x1b3 % 0x1_0000_0000 * 0x1_0000_0000;
+    let top = h % 0x100_0000 * 0x100_0000_0000;
+    std::num::wrapping_add_u64(std::num::wrapping_add_u64(low, high), top)
+}
+
+// An even seed draws floats of moderate size.
+fn tamed(seed: u32, w: u32) -> u32 {
+    if seed % 2 == 0 {
+        (w & 0x87ff_ffff) | 0x3800_0000
+    } else {
+        w
+    }
+}
+
+// Whether the operation's first, and its second and third input are words and no floats.
+fn first_is_word(op: u32) -> bool {
+    match op {
+        0x0b | 0x0d | 0x1e..=0x1f => true,
+        _ => false,
+    }
+}
+
+fn rest_are_words(op: u32) -> bool {
+    match op {
+        0x0b..=0x0c => true,
+        _ => false,
+    }
+}
+
+pub fn hash(powers: &[u32; 257], table: &[f32; 1025], run: Run) -> u64
+    requires { ⌜ now powers ≡ entries ⌝ }
+{
+    let op = run.op;
+    let seed = run.seed;
+    let count = run.count;
+    let mut h: u64 = 0xcbf2_9ce4_8422_2325;
+    let mut s = seed;
+    for _ in 0..count {
+        let a = next(s);
+        let b = next(a);
+        s = next(b);
+        let x = if first_is_word(op) { a } else { tamed(seed, a) };
+        let y = if rest_are_words(op) {
+            b
+        } else {
+            tamed(seed, b)
+        };
+        let z = if rest_are_words(op) {
+            s
+        } else {
+            tamed(seed, s)
+        };
+        h = folded(h, answer(powers, table, op, x, y, z));
+    }
+    h
+}
+
+// The table that `lookup` reads: 1,025 numbers from 0 to 1.
+pub fn table() -> [f32; 1025] {
+    let mut t = [0.0; 1025];
+    let mut s = 0x5eed;
+    for i in 0..1025usize {
+        s = next(s);
+        t[i] = nearest_u32(s >> 8) / 16777216.0;
+    }
+    t
+}

@@ -1,0 +1,7 @@
+// Links the proved libraries, which `rt staticlib` has written.
+fn main() {
+    let root = std::path::Path::new(env!("CARGO_MANIFEST_DIR")).join("../target/staticlib");
+    println!("cargo:rustc-link-search=native={}", root.display());
+    println!("cargo:rustc-link-lib=static=probe");
+    println!("cargo:rerun-if-changed={}", root.join("libprobe.a").display());
+}

@@ -1,0 +1,30 @@
+//! Compares the proved library with the oracle, bit for bit, NaN as one value, and prints "P of T";
+//! or measures its speed as a ratio to the oracle's.
+
+mod leaves;
+mod probe;
+mod speed;
+mod tally;
+
+const USAGE: &str = "usage: differential quick | differential leaves COUNT | differential speed";
+
+fn finish(tally: &tally::Tally) {
+    println!("{} of {}", tally.passed, tally.total);
+    if tally.passed != tally.total || tally.total == 0 {
+        std::process::exit(1);
+    }
+}
+
+fn main() {
+    let args: Vec<String> = std::env::args().skip(1).collect();
+    let words: Vec<&str> = args.iter().map(String::as_str).collect();
+    match words.as_slice() {
+        ["quick"] => finish(&leaves::compare(200_000)),
+        ["leaves", count] => finish(&leaves::compare(count.parse().expect(USAGE))),
+        ["speed"] => speed::table(),
+        _ => {
+            eprintln!("{USAGE}");
+            std::process::exit(2);
+        }
+    }
+}
