@@ -1,0 +1,5 @@
+pub mod Ranges
+pub mod Laws
+pub mod Arms
+pub mod Totals
+pub mod Choice

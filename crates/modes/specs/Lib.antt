@@ -1,0 +1,6 @@
+pub mod Mode
+pub mod Facts
+pub mod Table
+pub mod Says
+pub mod Totals
+pub mod Choice

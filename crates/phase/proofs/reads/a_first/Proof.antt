@@ -1,0 +1,9 @@
+-- `phase::a_first` meets its contract. Assumes nothing.
+use borrow.Author.Needs.{needs}
+use Rattle.phase.specs.Reads.{aFirst}
+use Rattle.phase.proofs.reads.a_first.Statement.{statement}
+use Rattle.phase.proofs.reads.a_first.Tie as tie
+
+pub a-first-spec : {M : Type 1} → statement M
+unfolding aFirst
+a-first-spec = tie.close (tie.spec (λ c κs. search needs) (λ c. cc))

@@ -1,0 +1,10 @@
+-- `phase::stretch_of` meets its contract. Assumes nothing.
+use borrow.Author.Needs.{needs}
+use Rattle.floats.specs.Steps.{steps}
+use Rattle.phase.specs.Slope.{stretchOf}
+use Rattle.phase.proofs.slope.stretch_of.Statement.{statement}
+use Rattle.phase.proofs.slope.stretch_of.Tie as tie
+
+pub stretch-of-spec : {M : Type 1} → statement M
+unfolding stretchOf
+stretch-of-spec = tie.close (tie.spec (λ c κs. search needs) (λ c κs. search needs) (λ c. search steps depth 12))

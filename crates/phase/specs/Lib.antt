@@ -1,0 +1,5 @@
+pub mod Reads
+pub mod Edge
+pub mod Quantise
+pub mod Map
+pub mod Slope

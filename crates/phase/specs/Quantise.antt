@@ -1,0 +1,65 @@
+-- `quantise` of phase.rs, in its steps. Definitions only.
+use Prim.Native.Nat.{ℕ}
+use lib.Ieee.{Float}
+use Rattle.floats.specs.F32.{_⊕_, _⊖_, _⊗_, _⊘_, bits, 0f, 1f, 2f, half}
+use Rattle.floats.specs.Steps.{_>>=_}
+use Rattle.floats.specs.Floor.{floorOf}
+use Rattle.floats.specs.Sign.{absOf}
+use Rattle.floats.specs.Exp2.{exp2Of}
+use Rattle.lanes.specs.Lane.{mulAdd, minOf}
+use Rattle.lanes.specs.Maths.{aboveOf, pickOf, clampOf, smoothstepOf}
+use Rattle.lanes.specs.Word.{signedOf, toWord}
+use Rattle.phase.specs.declared.reads.ReadList.{ReadList}
+use Rattle.phase.specs.declared.quantise.Steps.{Steps}
+use Rattle.phase.specs.declared.quantise.Line.{Line}
+use Rattle.phase.specs.declared.quantise.Edge.{Edge}
+use Rattle.phase.specs.Reads.{pushPair}
+
+-- 10 is (QUANTISE_MAX_STEPS / QUANTISE_MIN_STEPS).log2(), 2 is QUANTISE_MIN_STEPS; the last number is 0.499
+unfoldable pub stepsOf : Float → Float → Steps
+stepsOf a h = do
+  power ← exp2Of ((1f ⊖ a) ⊗ bits 0x4120_0000)
+  steps ← power ⊗ 2f
+  step ← 1f ⊘ steps
+  toward ← clampOf (h ⊗ 2f ⊗ steps ⊖ 1f) 0f 1f
+  h' ← minOf h (step ⊗ bits 0x3eff_7cee)
+  record { steps = steps; step = step; toward = toward; half = h' }
+
+-- 1e-4; f32::MAX
+unfoldable pub lineOf : Float → Float → Line
+lineOf steps x = do
+  last ← floorOf (steps ⊖ bits 0x38d1_b717)
+  near ← floorOf (x ⊕ half)
+  kept ← clampOf near 1f (bits 0x7f7f_ffff)
+  k ← minOf kept last
+  record { k = k; last = last }
+
+unfoldable pub edgeOf : Float → Float → ℕ → Edge
+edgeOf steps step word = do
+  t ← signedOf word
+  whole ← floorOf t
+  u ← t ⊖ whole
+  x ← u ⊗ steps
+  line ← lineOf steps x
+  grid ← (x ⊖ line .k) ⊗ step
+  far ← absOf grid
+  end ← absOf t
+  atEnd ← aboveOf (far ⊖ end)
+  distance ← pickOf atEnd grid t
+  left ← pickOf atEnd ((line .k ⊖ 1f) ⊗ step) (line .last ⊗ step ⊖ 1f)
+  right ← pickOf atEnd (line .k ⊗ step) 0f
+  picked ← pickOf atEnd u t
+  record { distance = distance; left = left; right = right; target = picked ⊖ step ⊗ half }
+
+-- (target - left).mul_add(toward, left), as a word
+unfoldable pub branchOf : Float → Float → Float → ℕ
+branchOf target toward at = toWord (mulAdd (target ⊖ at) toward at)
+
+unfoldable pub quantiseOf : Float → Float → ℕ → Float → ReadList → ReadList
+quantiseOf a h word gain out = do
+  s ← stepsOf a h
+  e ← edgeOf (s .steps) (s .step) word
+  left ← branchOf (e .target) (s .toward) (e .left)
+  right ← branchOf (e .target) (s .toward) (e .right)
+  weight ← smoothstepOf ((e .distance ⊕ s .half) ⊘ (2f ⊗ s .half))
+  pushPair out right weight left gain

@@ -1,0 +1,60 @@
+-- Read lists: `ReadList` of phase.rs and `LaneReads` of osc/mod.rs. Definitions only.
+use Prim.Native.Nat.{ℕ, _+_, _/_, _^_}
+use mathlib.Core.Bool.{Bool, true, false, cond}
+use mathlib.Core.List.{List}
+use lib.Dec.{ltb}
+use lib.ListN.{getD, set, replicate}
+use lib.Ieee.{Float, nan}
+use Rattle.floats.specs.F32.{_⊖_, _⊗_, 1f, half}
+use Rattle.floats.specs.Steps.{_>>=_, if_then_else_}
+use Rattle.lanes.specs.Lane.{anyOf}
+use Rattle.lanes.specs.Maths.{aboveOf, pickOf}
+use Rattle.lanes.specs.Word.{pickWord}
+use Rattle.phase.specs.declared.reads.ReadList.{ReadList}
+use Rattle.phase.specs.declared.reads.LaneReads.{LaneReads}
+
+-- `LaneReads::one`
+unfoldable pub oneRead : ℕ → LaneReads
+oneRead phase = record { phase = replicate 4 phase; gain = replicate 4 1f; count = 0 }
+
+unfoldable pub startOf : ℕ → ReadList
+startOf word = record { word = replicate 4 word; gain = replicate 4 1f; count = 1; weighted = false }
+
+unfoldable pub emptyOf : ℕ → ReadList
+emptyOf like = record { word = replicate 4 like; gain = replicate 4 1f; count = 0; weighted = false }
+
+-- self.weighted = true
+unfoldable pub weightedOf : ReadList → ReadList
+weightedOf r = record { word = r .word; gain = r .gain; count = r .count; weighted = true }
+
+-- if self.count < MAX_READS { self.word[self.count] = word; .. }
+unfoldable pub pushOf : ReadList → ℕ → Float → ReadList
+pushOf r word gain =
+    cond (ltb (r .count) 4)
+    (record { word = set (r .word) (r .count) word; gain = set (r .gain) (r .count) gain; count = r .count + 1; weighted = r .weighted })
+    r
+
+-- the order in a pair: 1 where a, weighted wa, comes first, else 0
+unfoldable pub aFirst : Float → Float
+aFirst wa = aboveOf (wa ⊖ half)
+
+-- the heavier first, and the lighter only if it has any weight
+unfoldable pub pushPair : ReadList → ℕ → Float → ℕ → Float → ReadList
+pushPair r a wa b gain = do
+  wb ← 1f ⊖ wa
+  mask ← aFirst wa
+  first ← pickWord mask b a
+  second ← pickWord mask a b
+  firstWeight ← pickOf mask wb wa
+  secondWeight ← 1f ⊖ firstWeight
+  r₁ ← weightedOf r
+  r₂ ← pushOf r₁ first (firstWeight ⊗ gain)
+  if anyOf secondWeight then pushOf r₂ second (secondWeight ⊗ gain) else r₂
+
+-- an unweighted list goes out with count 0
+unfoldable pub outgoingOf : ReadList → LaneReads
+outgoingOf r = record { phase = r .word; gain = r .gain; count = cond (r .weighted) (r .count) 0 }
+
+-- the entry of the lent cycle that a word reads: word / 2 ^ 21, rounded down
+unfoldable pub cycleAt : List Float → ℕ → Float
+cycleAt cycle word = getD cycle (word / 2 ^ 21) nan

@@ -1,0 +1,97 @@
+// What the maps have in common: the running phase, edges without aliasing, and the strengths.
+use floats::floor;
+use lanes::Numbers;
+use lanes::atan;
+use lanes::clamp;
+use lanes::cos_cycles;
+use lanes::lookup;
+use lanes::signed;
+use lanes::sin_cycles;
+use lanes::smoothstep;
+ghost use mathlib.Core.Path.{_≡_};
+ghost use Prim.Native.Nat.{_<_};
+ghost use lib.ListN.{length};
+ghost use Rattle.phase.specs.Edge.{unitOf, wrapOf, edgeStep, smoothBox, leanOffset, remapOf, pinchStrength, leanStrength};
+
+pub const PINCH_MAX: f32 = 0.8;
+
+pub const LEAN_MAX: f32 = 1.8;
+
+const FRAC_1_PI: f32 = 0.31830987;
+
+// The running phase `word` read as a fraction of a cycle, 0 to 1.
+pub fn unit(word: u32) -> f32
+    ensures { λ r. ⌜ r ≡ unitOf word ⌝ }
+{
+    let t = signed(word);
+    t - floor(t)
+}
+
+// `x` wrapped to -1/2 to 1/2.
+pub fn wrap(x: f32) -> f32
+    ensures { λ r. ⌜ r ≡ wrapOf x ⌝ }
+{
+    x - floor(x + 0.5)
+}
+
+// The step across an edge at 0, smoothed `half` cycles either side.
+fn edge_step(half: f32, x: f32) -> f32
+    ensures { λ r. ⌜ r ≡ edgeStep half x ⌝ }
+{
+    let width = 2.0 * half;
+    smoothstep((x + half) / width)
+}
+
+// A box of half-length `length` centred on 0, repeating every cycle, its edges smoothed `half`
+// cycles either side, at `v` cycles from its centre.
+pub fn smooth_box(v: f32, length: f32, half: f32) -> f32
+    ensures { λ r. ⌜ r ≡ smoothBox v length half ⌝ }
+{
+    let rise = edge_step(half, v + length);
+    let fall = edge_step(half, v - length);
+    let next = edge_step(half, v + length - 1.0);
+    let last = edge_step(half, v - length + 1.0);
+    let inside = rise - fall + next + 1.0 - last;
+    clamp(inside, 0.0, 1.0)
+}
+
+// The lean map's offset at `x` cycles, for strength `beta` (|β| < 2).
+pub fn lean_offset(numbers: Numbers, x: f32, beta: f32) -> f32
+    ensures { λ r. ⌜ r ≡ leanOffset (numbers .sin) (numbers .atan) x beta ⌝ }
+{
+    let k = cos_cycles(numbers, x);
+    let s = sin_cycles(numbers, x);
+    let ratio = beta * (1.0 - k) / (2.0 - beta * s);
+    atan(numbers, ratio) * FRAC_1_PI
+}
+
+// The drawn curve blended from identity by `a`, at `x` (0 to 1).
+pub fn remap(curve: &[f32], a: f32, x: f32) -> f32
+    requires { ⌜ 1024 < length (now curve) ⌝ }
+    ensures { λ r. ⌜ r ≡ remapOf (now (curve .entry)) a x ⌝ }
+{
+    let y = lookup(curve, x);
+    (y - x) * a + x
+}
+
+// The pinch map's strength, -`PINCH_MAX` (out) to +`PINCH_MAX` (in).
+pub fn pinch_strength(mode: u32, a: f32) -> f32
+    ensures { λ r. ⌜ r ≡ pinchStrength mode a ⌝ }
+{
+    match mode {
+        2 => a * PINCH_MAX,
+        3 => -a * PINCH_MAX,
+        _ => (a * 2.0 - 1.0) * PINCH_MAX,
+    }
+}
+
+// The lean map's strength: negative leans right (the cycle's content later), positive left.
+pub fn lean_strength(mode: u32, a: f32) -> f32
+    ensures { λ r. ⌜ r ≡ leanStrength mode a ⌝ }
+{
+    match mode {
+        6 => -a * LEAN_MAX,
+        7 => a * LEAN_MAX,
+        _ => (1.0 - a * 2.0) * LEAN_MAX,
+    }
+}

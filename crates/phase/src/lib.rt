@@ -1,0 +1,19 @@
+// The phase stage of phase.rs: where the cycle is read. A slot's map takes each read of a list to one
+// or two reads, at most four in all; inter-oscillator modes move them.
+pub mod edge;
+pub mod map;
+pub mod quantise;
+pub mod reads;
+pub mod slope;
+
+pub use map::Slot;
+pub use map::apply;
+pub use map::shift;
+pub use reads::LaneReads;
+pub use reads::MAX_READS;
+pub use reads::ReadList;
+pub use reads::outgoing;
+pub use reads::read_cycle;
+pub use slope::StretchAnswer;
+pub use slope::stretch;
+pub use slope::stretch_of;

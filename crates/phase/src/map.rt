@@ -1,0 +1,270 @@
+// The maps: one function for each arm of the Rust's `map`, each shaping one read, `word` weighted
+// `gain`, into `out`, at amount `a` with crossfades `half` cycles either side of each edge.
+use crate::edge::LEAN_MAX;
+use crate::edge::lean_offset;
+use crate::edge::lean_strength;
+use crate::edge::pinch_strength;
+use crate::edge::remap;
+use crate::edge::smooth_box;
+use crate::edge::unit;
+use crate::edge::wrap;
+use crate::quantise::quantise;
+use crate::reads::ReadList;
+use floats::exp2;
+use floats::floor;
+use lanes::Numbers;
+use lanes::above;
+use lanes::add_words;
+use lanes::atan;
+use lanes::clamp;
+use lanes::cos_cycles;
+use lanes::lookup;
+use lanes::max;
+use lanes::min;
+use lanes::pick;
+use lanes::signed;
+use lanes::sin_cycles;
+use lanes::smoothstep;
+use lanes::to_word;
+ghost use mathlib.Core.Path.{_≡_};
+ghost use Prim.Native.Nat.{_<_, _≤_, max};
+ghost use lib.ListN.{length};
+ghost use Rattle.floats.specs.Exp2.{entries};
+ghost use Rattle.phase.specs.Map.{syncMap, pinchMap, leanMap, pulseWidthMap, flipMap, mirrorMap, oddEvenMap, remapDrawnMap, remapMirroredMap, remapQuadMap, remapSineMap, mapOf, applyOf, shiftOf};
+
+pub const PULSE_MAX: f32 = 0.95;
+
+const FRAC_1_PI: f32 = 0.31830987;
+
+const TAU: f32 = 6.2831855;
+
+// What a slot shapes with during a render, beside the lent curve: its mode and character.
+pub struct Slot {
+    pub mode: u32,
+    pub character: f32,
+}
+
+// The slave runs `ratio` times faster and restarts with the cycle: after the restart it's at
+// ratio × t, before it at ratio × (t + 1). Softness widens the crossfade at the restart.
+fn sync(
+    powers: &[u32; 257],
+    character: f32,
+    a: f32,
+    half: f32,
+    word: u32,
+    gain: f32,
+    out: ReadList,
+) -> ReadList
+    requires { ⌜ now powers ≡ entries ⌝ }
+    ensures { λ r. ⌜ r ≡ syncMap character a half word gain out ⌝ }
+{
+    let ratio = exp2(powers, a * 4.0);
+    let t = signed(word);
+    let after = to_word(ratio * t);
+    let whole = to_word(ratio);
+    let before = add_words(after, whole);
+    let soft = clamp(character, 0.0, 1.0);
+    let wide = max(half, 0.5 * soft);
+    let half = min(wide, 0.5);
+    let weight = smoothstep((t + half) / (2.0 * half));
+    out.push_pair(after, weight, before, gain)
+}
+
+// A hyperbolic circle map at twice the cycle's rate: points flow towards the quarter points (inward)
+// or away from them.
+fn pinch(numbers: Numbers, mode: u32, a: f32, word: u32, gain: f32, out: ReadList) -> ReadList
+    ensures { λ r. ⌜ r ≡ pinchMap (numbers .sin) (numbers .atan) mode a word gain out ⌝ }
+{
+    let strength = pinch_strength(mode, a);
+    let x = unit(word) * 2.0;
+    let s = sin_cycles(numbers, x);
+    let k = cos_cycles(numbers, x);
+    let angle = atan(numbers, strength * s / (strength * k + 1.0));
+    let offset = -angle * (0.5 * FRAC_1_PI);
+    out.push(add_words(word, to_word(offset)), gain)
+}
+
+fn lean(numbers: Numbers, mode: u32, a: f32, word: u32, gain: f32, out: ReadList) -> ReadList
+    ensures { λ r. ⌜ r ≡ leanMap (numbers .sin) (numbers .atan) mode a word gain out ⌝ }
+{
+    let beta = lean_strength(mode, a);
+    let offset = lean_offset(numbers, unit(word), beta);
+    out.push(add_words(word, to_word(offset)), gain)
+}
+
+// The cycle squeezed into its first `length`, then the start held: a box of the squeezed read and
+// the hold.
+fn pulse_width(a: f32, half: f32, word: u32, gain: f32, out: ReadList) -> ReadList
+    ensures { λ r. ⌜ r ≡ pulseWidthMap a half word gain out ⌝ }
+{
+    let length = 1.0 - a * PULSE_MAX;
+    let centre = length * 0.5;
+    let v = wrap(unit(word) - centre);
+    let squeezed = to_word((centre + v) / length);
+    let weight = smooth_box(v, centre, half);
+    out.push_pair(squeezed, weight, 0, gain)
+}
+
+// Inverted from 1 - a to the end of the cycle.
+fn flip(a: f32, half: f32, word: u32, gain: f32, out: ReadList) -> ReadList
+    ensures { λ r. ⌜ r ≡ flipMap a half word gain out ⌝ }
+{
+    let length = a * 0.5;
+    let v = wrap(unit(word) - (1.0 - length));
+    let inverted = smooth_box(v, length, half);
+    out.weighted().push(word, gain * (1.0 - 2.0 * inverted))
+}
+
+// The first half of the wave, leaned, then the same backwards.
+fn mirror(numbers: Numbers, a: f32, half: f32, word: u32, gain: f32, out: ReadList) -> ReadList
+    ensures { λ r. ⌜ r ≡ mirrorMap (numbers .sin) (numbers .atan) a half word gain out ⌝ }
+{
+    let beta = -a * LEAN_MAX;
+    let v = wrap(unit(word) - 0.25);
+    let forward_at = (0.25 + v) * 2.0;
+    let backward_at = 1.5 - v * 2.0;
+    let forward = (forward_at + lean_offset(numbers, forward_at, beta)) * 0.5;
+    let backward = (backward_at + lean_offset(numbers, backward_at, beta)) * 0.5;
+    let weight = smooth_box(v, 0.25, half);
+    out.push_pair(to_word(forward), weight, to_word(backward), gain)
+}
+
+// Odd part (w(φ) - w(φ + 1/2)) / 2 and even part (w(φ) + w(φ + 1/2)) / 2, the odd at full level to
+// 50 % and the even from it.
+fn odd_even(a: f32, word: u32, gain: f32, out: ReadList) -> ReadList
+    ensures { λ r. ⌜ r ≡ oddEvenMap a word gain out ⌝ }
+{
+    let odd = min(2.0 * (1.0 - a), 1.0);
+    let even = min(2.0 * a, 1.0);
+    let one = out.weighted().push(word, gain * (odd + even) * 0.5);
+    one.push(add_words(word, 0x8000_0000), gain * (even - odd) * 0.5)
+}
+
+fn remap_drawn(curve: &[f32], a: f32, word: u32, gain: f32, out: ReadList) -> ReadList
+    requires { ⌜ 1024 < length (now curve) ⌝ }
+    ensures { λ r. ⌜ r ≡ remapDrawnMap (now (curve .entry)) a word gain out ⌝ }
+{
+    let u = unit(word);
+    let y = lookup(curve, u);
+    out.push(add_words(word, to_word(a * (y - u))), gain)
+}
+
+fn remap_mirrored(curve: &[f32], a: f32, word: u32, gain: f32, out: ReadList) -> ReadList
+    requires { ⌜ 1024 < length (now curve) ⌝ }
+    ensures { λ r. ⌜ r ≡ remapMirroredMap (now (curve .entry)) a word gain out ⌝ }
+{
+    let u = unit(word);
+    let second = above(u - 0.5);
+    let x = pick(second, u * 2.0, 2.0 - u * 2.0);
+    let y = remap(curve, a, x) * 0.5;
+    out.push(to_word(pick(second, y, 1.0 - y)), gain)
+}
+
+fn remap_quad(curve: &[f32], a: f32, word: u32, gain: f32, out: ReadList) -> ReadList
+    requires { ⌜ 1024 < length (now curve) ⌝ }
+    ensures { λ r. ⌜ r ≡ remapQuadMap (now (curve .entry)) a word gain out ⌝ }
+{
+    let u = unit(word) * 4.0;
+    let quarter = floor(u);
+    let y = (quarter + remap(curve, a, u - quarter)) * 0.25;
+    out.push(to_word(y), gain)
+}
+
+fn remap_sine(numbers: Numbers, a: f32, word: u32, gain: f32, out: ReadList) -> ReadList
+    ensures { λ r. ⌜ r ≡ remapSineMap (numbers .sin) a word gain out ⌝ }
+{
+    let offset = -a * sin_cycles(numbers, unit(word)) * (1.0 / TAU);
+    out.push(add_words(word, to_word(offset)), gain)
+}
+
+// One read through a slot's map; a mode that is no phase mode, or moves the phase by a source, keeps it.
+fn map(
+    powers: &[u32; 257],
+    numbers: Numbers,
+    curve: &[f32],
+    slot: Slot,
+    a: f32,
+    half: f32,
+    word: u32,
+    gain: f32,
+    out: ReadList,
+) -> ReadList
+    requires { ⌜ now powers ≡ entries ⌝ ∗ ⌜ 1024 < length (now curve) ⌝ }
+    ensures { λ r. ⌜ r ≡ mapOf (numbers .sin) (numbers .atan) (now (curve .entry)) slot a half word gain out ⌝ }
+{
+    let mode = slot.mode;
+    match mode {
+        1 => sync(powers, slot.character, a, half, word, gain, out),
+        2 => pinch(numbers, mode, a, word, gain, out),
+        3 => pinch(numbers, mode, a, word, gain, out),
+        4 => pinch(numbers, mode, a, word, gain, out),
+        5 => pulse_width(a, half, word, gain, out),
+        6 => lean(numbers, mode, a, word, gain, out),
+        7 => lean(numbers, mode, a, word, gain, out),
+        8 => lean(numbers, mode, a, word, gain, out),
+        9 => flip(a, half, word, gain, out),
+        10 => mirror(numbers, a, half, word, gain, out),
+        11 => remap_drawn(curve, a, word, gain, out),
+        12 => remap_mirrored(curve, a, word, gain, out),
+        13 => remap_sine(numbers, a, word, gain, out),
+        14 => remap_quad(curve, a, word, gain, out),
+        15 => quantise(powers, a, half, word, gain, out),
+        16 => odd_even(a, word, gain, out),
+        _ => out.push(word, gain),
+    }
+}
+
+// The read list after `slot` shapes `list`, at `amount` (0 to 1), with crossfades `half` cycles either
+// side of each edge.
+pub fn apply(
+    powers: &[u32; 257],
+    numbers: Numbers,
+    curve: &[f32],
+    slot: Slot,
+    amount: f32,
+    half: f32,
+    list: ReadList,
+) -> ReadList
+    requires { ⌜ now powers ≡ entries ⌝ ∗ ⌜ 1024 < length (now curve) ⌝ ∗ ⌜ list .count ≤ 4 ⌝ }
+    ensures { λ r. ⌜ r ≡ applyOf (numbers .sin) (numbers .atan) (now (curve .entry)) slot amount half list ⌝ }
+{
+    let words = list.word;
+    let gains = list.gain;
+    let n = list.count;
+    let mut out = ReadList::empty(words[0]);
+    out.weighted = list.weighted;
+    for i in 0..n {
+        out = map(
+            powers,
+            numbers,
+            curve,
+            slot,
+            amount,
+            half,
+            words[i],
+            gains[i],
+            out,
+        );
+    }
+    out
+}
+
+// A list of none has one word in use.
+fn in_use(count: usize) -> usize
+    ensures { λ r. ⌜ r ≡ max count 1 ⌝ }
+{
+    if count < 1 { 1 } else { count }
+}
+
+// Moves every read in `list` on by `offset` words: where an inter-oscillator mode adds its own phase.
+pub fn shift(list: ReadList, offset: u32) -> ReadList
+    requires { ⌜ list .count ≤ 4 ⌝ }
+    ensures { λ r. ⌜ r ≡ shiftOf list offset ⌝ }
+{
+    let n = in_use(list.count);
+    let mut out = list;
+    for i in 0..n {
+        out.word[i] = add_words(out.word[i], offset);
+    }
+    out
+}
