@@ -2,11 +2,12 @@
 //! or measures its speed as a ratio to the oracle's.
 
 mod leaves;
+mod phases;
 mod probe;
 mod speed;
 mod tally;
 
-const USAGE: &str = "usage: differential quick | differential leaves COUNT | differential speed";
+const USAGE: &str = "usage: differential quick | leaves COUNT | phases COUNT | speed";
 
 fn finish(tally: &tally::Tally) {
     println!("{} of {}", tally.passed, tally.total);
@@ -19,8 +20,13 @@ fn main() {
     let args: Vec<String> = std::env::args().skip(1).collect();
     let words: Vec<&str> = args.iter().map(String::as_str).collect();
     match words.as_slice() {
-        ["quick"] => finish(&leaves::compare(200_000)),
+        ["quick"] => {
+            let mut all = leaves::compare(200_000);
+            all.add(&phases::compare(400_000));
+            finish(&all);
+        }
         ["leaves", count] => finish(&leaves::compare(count.parse().expect(USAGE))),
+        ["phases", count] => finish(&phases::compare(count.parse().expect(USAGE))),
         ["speed"] => speed::table(),
         _ => {
             eprintln!("{USAGE}");

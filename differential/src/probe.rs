@@ -21,6 +21,35 @@ pub struct Parts {
     pub mantissa: f32,
 }
 
+/// 0 and a value, or a refusal's number and 0.
+#[repr(C)]
+#[derive(Clone, Copy)]
+pub struct Answer {
+    pub number: u32,
+    pub value: f32,
+}
+
+/// Two slots' modes, characters and amounts.
+#[repr(C)]
+#[derive(Clone, Copy)]
+pub struct Slots {
+    pub mode0: u32,
+    pub mode1: u32,
+    pub character0: f32,
+    pub character1: f32,
+    pub amount0: f32,
+    pub amount1: f32,
+}
+
+/// A read list as it goes out.
+#[repr(C)]
+#[derive(Clone, Copy)]
+pub struct LaneReads {
+    pub phase: [u32; 4],
+    pub gain: [f32; 4],
+    pub count: usize,
+}
+
 unsafe extern "C" {
     pub safe fn probe_abs(x: f32) -> f32;
     pub safe fn probe_sqrt(x: f32) -> f32;
@@ -49,11 +78,43 @@ unsafe extern "C" {
     pub safe fn probe_atan(numbers: Numbers, x: f32) -> f32;
     pub safe fn probe_tan(numbers: Numbers, x: f32) -> f32;
     pub safe fn probe_split(x: f32) -> Parts;
+    pub safe fn probe_source(mode: u32) -> u32;
+    pub safe fn probe_fm_type(mode: u32) -> u32;
+    pub safe fn probe_modulated(mode: u32) -> u32;
+    pub safe fn probe_stage(mode: u32) -> u32;
+    pub safe fn probe_oversampled(mode: u32) -> u32;
+    pub safe fn probe_distortion(mode: u32) -> u32;
+    pub safe fn probe_stretch(mode: u32, amount: f32, curve: f32) -> Answer;
     fn probe_lookup(table: *const f32, len: usize, x: f32) -> f32;
     fn probe_powers_run(
         leaf: u32,
         xs: *const f32,
         xs_len: usize,
+        out: *mut f32,
+        out_len: usize,
+    ) -> usize;
+    fn probe_curve_value(curve: *const f32, len: usize, x: f32) -> Answer;
+    fn probe_curve_steepest(curve: *const f32, len: usize) -> Answer;
+    fn probe_apply(
+        numbers: Numbers,
+        curve: *const f32,
+        curve_len: usize,
+        slots: Slots,
+        half: f32,
+        inner: f32,
+        word: u32,
+    ) -> LaneReads;
+    fn probe_reads_run(
+        numbers: Numbers,
+        curve: *const f32,
+        curve_len: usize,
+        cycle: *const f32,
+        cycle_len: usize,
+        slots: Slots,
+        half: f32,
+        inner: f32,
+        words: *const u32,
+        words_len: usize,
         out: *mut f32,
         out_len: usize,
     ) -> usize;
@@ -68,4 +129,41 @@ pub fn lookup(table: &[f32], x: f32) -> f32 {
 pub fn powers_run(leaf: u32, xs: &[f32], out: &mut [f32]) -> usize {
     // SAFETY: the pointers and counts are the slices', which do not overlap.
     unsafe { probe_powers_run(leaf, xs.as_ptr(), xs.len(), out.as_mut_ptr(), out.len()) }
+}
+
+pub fn curve_value(curve: &[f32], x: f32) -> Answer {
+    // SAFETY: the pointer and the count are the slice's.
+    unsafe { probe_curve_value(curve.as_ptr(), curve.len(), x) }
+}
+
+pub fn curve_steepest(curve: &[f32]) -> Answer {
+    // SAFETY: the pointer and the count are the slice's.
+    unsafe { probe_curve_steepest(curve.as_ptr(), curve.len()) }
+}
+
+/// The read list of two slots, slot 1 first, slot 0 with half width times `inner`.
+pub fn apply(curve: &[f32], slots: Slots, half: f32, inner: f32, word: u32) -> LaneReads {
+    // SAFETY: the pointer and the count are the slice's.
+    unsafe { probe_apply(NUMBERS, curve.as_ptr(), curve.len(), slots, half, inner, word) }
+}
+
+/// The sum of that list's reads of the cycle at each of `words`.
+pub fn reads_run(curve: &[f32], cycle: &[f32], slots: Slots, half: f32, inner: f32, words: &[u32], out: &mut [f32]) -> usize {
+    // SAFETY: the pointers and counts are the slices', of which `out` overlaps none.
+    unsafe {
+        probe_reads_run(
+            NUMBERS,
+            curve.as_ptr(),
+            curve.len(),
+            cycle.as_ptr(),
+            cycle.len(),
+            slots,
+            half,
+            inner,
+            words.as_ptr(),
+            words.len(),
+            out.as_mut_ptr(),
+            out.len(),
+        )
+    }
 }

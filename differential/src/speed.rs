@@ -1,9 +1,11 @@
-//! Each leaf's time as a ratio to the oracle's, in one run: both behind a call that is not inlined,
-//! on the same inputs. The oracle is the copy with the added rules.
+//! Each leaf's time as a ratio to the oracle's, and that of read lists, in one run: both behind a call
+//! that is not inlined, on the same inputs. The oracle is the copy with the added rules.
 
-use crate::probe::{self, NUMBERS};
+use crate::probe::{self, NUMBERS, Slots};
 use programs::{Generator, lookup_table, tame};
-use ruled::api::lanes as oracle;
+use ruled::api::phase::{self, Slot};
+use ruled::api::{self, lanes as oracle};
+use ruled::osc::{self, LaneReads, Wave};
 use std::hint::black_box;
 use std::time::Instant;
 
@@ -26,7 +28,7 @@ fn row(name: &str, mut got: impl FnMut(), mut want: impl FnMut()) {
     let (g1, w1) = (best(&mut got), best(&mut want));
     let (g2, w2) = (best(&mut got), best(&mut want));
     let (g, w) = (g1.min(g2), w1.min(w2));
-    println!("{name:<14} {g:7.2} {w:7.2} {:6.2}", g / w);
+    println!("{name:<20} {g:7.2} {w:7.2} {:6.2}", g / w);
 }
 
 /// The oracle's leaf behind a call of the same kind as the library's.
@@ -168,6 +170,72 @@ fn powers(xs: &[f32]) {
     }
 }
 
+/// Modes of slot 1 and slot 0: alone, and two that map.
+const PAIRS: [[u32; 2]; 13] = [
+    [0, 0],
+    [0, 1],
+    [0, 2],
+    [0, 8],
+    [0, 5],
+    [0, 9],
+    [0, 10],
+    [0, 11],
+    [0, 15],
+    [0, 16],
+    [1, 10],
+    [2, 8],
+    [15, 11],
+];
+
+/// The oracle's loop over the words: two slots, the list as it goes out, the sum of its reads.
+#[inline(never)]
+fn oracle_run(curve: &[f32], cycle: &[f32], slots: Slots, half: f32, inner: f32, words: &[u32], out: &mut [f32]) {
+    let slot1 = Slot { mode: slots.mode1, character: slots.character1, curve };
+    let slot0 = Slot { mode: slots.mode0, character: slots.character0, curve };
+    for (to, &word) in out.iter_mut().zip(words) {
+        let list = phase::apply(&slot1, slots.amount1, half, &phase::start(word));
+        let list = phase::apply(&slot0, slots.amount0, half * inner, &list);
+        let reads = LaneReads {
+            phase: list.word,
+            gain: list.gain,
+            count: if list.weighted { list.count } else { 0 },
+        };
+        *to = osc::read(Wave(cycle), &reads);
+    }
+}
+
+/// Read lists of two slots and the sums of their reads, the words going on by a step.
+fn reads() {
+    let curve = lookup_table();
+    let mut g = Generator(0x5eed);
+    let cycle: Vec<f32> = (0..2048).map(|_| (g.draw() >> 8) as f32 / 8_388_608.0 - 1.0).collect();
+    let step = 0x0123_4567u32;
+    let words: Vec<u32> = (0..INPUTS as u32).map(|i| i.wrapping_mul(step)).collect();
+    let half = step as f32 / 4_294_967_296.0;
+    let (mut out, mut other) = (vec![0.0; INPUTS], vec![0.0; INPUTS]);
+    println!("sums of read lists of two slots (mode 1, mode 0): ns a word, the oracle's, the ratio");
+    for [mode1, mode0] in PAIRS {
+        let slots = Slots {
+            mode0,
+            mode1,
+            character0: 0.25,
+            character1: 0.125,
+            amount0: 0.37,
+            amount1: 0.61,
+        };
+        row(
+            &format!("{:?}, {:?}", api::mode(mode1), api::mode(mode0)),
+            || {
+                black_box(probe::reads_run(&curve, &cycle, black_box(slots), half, 1.5, black_box(&words), &mut out));
+            },
+            || {
+                oracle_run(&curve, &cycle, black_box(slots), half, 1.5, black_box(&words), &mut other);
+                black_box(&other);
+            },
+        );
+    }
+}
+
 pub fn table() {
     for (what, is_tame) in [("floats near 1", true), ("any bit pattern", false)] {
         let all = inputs(is_tame);
@@ -177,4 +245,5 @@ pub fn table() {
         words(&all.floats, &all.words);
         powers(&all.floats);
     }
+    reads();
 }

@@ -11,7 +11,7 @@ use Rattle.lanes.specs.Lane.{anyOf}
 use Rattle.modes.specs.Choice.{Case, _⇒_, caseOf}
 use Rattle.phase.specs.declared.reads.ReadList.{ReadList}
 use Rattle.phase.specs.declared.map.Slot.{Slot}
-use Rattle.phase.specs.Reads.{startOf, emptyOf, weightedOf, pushOf, pushPair}
+use Rattle.phase.specs.Reads.{startOf, emptyOf, weightedOf, pushOf, pushPair, outgoingOf}
 use Rattle.phase.specs.Quantise.{quantiseOf}
 use Rattle.phase.specs.Map.{syncMap, pinchMap, leanMap, pulseWidthMap, flipMap, mirrorMap, oddEvenMap, remapDrawnMap, remapMirroredMap, remapQuadMap, remapSineMap, mapOf, mapped, emptied, applyOf, shiftOf}
 
@@ -88,3 +88,11 @@ shift-few r o h = record { few = h .few }
 pub start-few : (w : ℕ) → Few (startOf w)
 unfolding startOf
 start-few w = record { few = omega arith }
+
+pub outgoing-few : (r : ReadList) → Few r → outgoingOf r .count ≤ 4
+unfolding outgoingOf
+outgoing-few r h = go (r .weighted)
+  where
+    go : (b : Bool) → cond b (r .count) 0 ≤ 4
+    go true = h .few
+    go false = omega arith

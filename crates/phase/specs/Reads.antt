@@ -1,11 +1,11 @@
 -- Read lists: `ReadList` of phase.rs and `LaneReads` of osc/mod.rs. Definitions only.
-use Prim.Native.Nat.{ℕ, _+_, _/_, _^_}
+use Prim.Native.Nat.{ℕ, zero, suc, _+_, _-_, _/_, _^_}
 use mathlib.Core.Bool.{Bool, true, false, cond}
 use mathlib.Core.List.{List}
-use lib.Dec.{ltb}
+use lib.Dec.{ltb, eqb}
 use lib.ListN.{getD, set, replicate}
 use lib.Ieee.{Float, nan}
-use Rattle.floats.specs.F32.{_⊖_, _⊗_, 1f, half}
+use Rattle.floats.specs.F32.{_⊕_, _⊖_, _⊗_, 1f, half}
 use Rattle.floats.specs.Steps.{_>>=_, if_then_else_}
 use Rattle.lanes.specs.Lane.{anyOf}
 use Rattle.lanes.specs.Maths.{aboveOf, pickOf}
@@ -58,3 +58,15 @@ outgoingOf r = record { phase = r .word; gain = r .gain; count = cond (r .weight
 -- the entry of the lent cycle that a word reads: word / 2 ^ 21, rounded down
 unfoldable pub cycleAt : List Float → ℕ → Float
 cycleAt cycle word = getD cycle (word / 2 ^ 21) nan
+
+-- the product of read i
+abbrev pub productAt : List Float → List ℕ → List Float → ℕ → Float
+productAt cycle words gains i = getD gains i nan ⊗ cycleAt cycle (getD words i 0)
+
+-- the products of reads 0 to n, added up in that order
+unfoldable pub sumTo : List Float → List ℕ → List Float → ℕ → Float
+sumTo cycle words gains zero = productAt cycle words gains 0
+sumTo cycle words gains (suc n) = sumTo cycle words gains n ⊕ productAt cycle words gains (suc n)
+
+unfoldable pub readSum : List Float → LaneReads → Float
+readSum cycle reads = cond (eqb (reads .count) 0) (cycleAt cycle (getD (reads .phase) 0 0)) (sumTo cycle (reads .phase) (reads .gain) (reads .count - 1))

@@ -14,6 +14,7 @@ pub use reads::MAX_READS;
 pub use reads::ReadList;
 pub use reads::outgoing;
 pub use reads::read_cycle;
+pub use reads::read_sum;
 pub use slope::StretchAnswer;
 pub use slope::stretch;
 pub use slope::stretch_of;

@@ -6,7 +6,7 @@ use lanes::pick_word;
 ghost use mathlib.Core.Path.{_≡_};
 ghost use Prim.Native.Nat.{_≤_};
 ghost use lib.ListN.{length};
-ghost use Rattle.phase.specs.Reads.{startOf, emptyOf, weightedOf, pushOf, aFirst, pushPair, oneRead, outgoingOf, cycleAt};
+ghost use Rattle.phase.specs.Reads.{startOf, emptyOf, weightedOf, pushOf, aFirst, pushPair, oneRead, outgoingOf, cycleAt, readSum};
 
 // The most reads of a list.
 pub const MAX_READS: usize = 4;
@@ -128,4 +128,23 @@ pub fn read_cycle(cycle: &[f32], word: u32) -> f32
     ensures { λ r. ⌜ r ≡ cycleAt (now (cycle .entry)) word ⌝ }
 {
     cycle[(word / 0x20_0000) as usize]
+}
+
+// The sum of a list's reads: of count 0 the first word's with no gain, otherwise the products from the
+// first on, in list order.
+pub fn read_sum(cycle: &[f32], reads: LaneReads) -> f32
+    requires { ⌜ 2048 ≤ length (now cycle) ⌝ ∗ ⌜ reads .count ≤ 4 ⌝ }
+    ensures { λ r. ⌜ r ≡ readSum (now (cycle .entry)) reads ⌝ }
+{
+    let phase = reads.phase;
+    let gain = reads.gain;
+    let count = reads.count;
+    if count == 0 {
+        return read_cycle(cycle, phase[0]);
+    }
+    let mut sum = gain[0] * read_cycle(cycle, phase[0]);
+    for i in 1..count {
+        sum = sum + gain[i] * read_cycle(cycle, phase[i]);
+    }
+    sum
 }

@@ -1,6 +1,5 @@
 -- What the tests' exports answer beyond the leaves themselves. Definitions only.
-use mathlib.Core.Path.{_≡_}
-use Prim.Native.Nat.{ℕ, _<_, _≤_}
+use Prim.Native.Nat.{ℕ}
 use mathlib.Core.Bool.{cond}
 use mathlib.Core.List.{List}
 use lib.Dec.{ltb, eqb}
@@ -21,8 +20,6 @@ lookupOrZero table x = cond (ltb (length table) 1025) 0f (lookupOf table x)
 unfoldable pub powersLeaf : ℕ → Float → Float
 powersLeaf leaf x = cond (eqb leaf 0) (exp2Of x) (cond (eqb leaf 1) (tanhOf x) (cond (eqb leaf 2) (expOf x) (cond (eqb leaf 3) (lnCosh x) x)))
 
--- the first r answers are written, and nothing else
-pub record Ran (leaf : ℕ) (xs before after : List Float) (r : ℕ) : Type 0 where
-  pub long : length after ≡ length before
-  pub made : (k : ℕ) → k < r → getD after k nan ≡ powersLeaf leaf (getD xs k nan)
-  pub kept : (k : ℕ) → r ≤ k → getD after k nan ≡ getD before k nan
+-- the leaf at the k-th float
+abbrev pub powersLeafAt : ℕ → List Float → ℕ → Float
+powersLeafAt leaf xs k = powersLeaf leaf (getD xs k nan)

@@ -1,1 +1,4 @@
 pub mod Leaves
+pub mod Codes
+pub mod Runs
+pub mod Phases

@@ -1,4 +1,5 @@
 // The library's answer to an operation of the vectors, on bit patterns.
+use crate::phases::phase_answer;
 use floats::abs;
 use floats::cast_word;
 use floats::exp2;
@@ -23,7 +24,7 @@ pub fn float(bits: u32) -> f32 {
     }
 }
 
-fn pattern(x: f32) -> u32 {
+pub fn pattern(x: f32) -> u32 {
     if x != x { 0x7fc0_0000 } else { f32::to_bits(x) }
 }
 
@@ -106,6 +107,7 @@ pub fn answer(powers: &[u32; 257], table: &[f32; 1025], op: u32, a: u32, b: u32,
     match op {
         0x00..=0x02 | 0x10 | 0x13 => pattern(several(op, float(a), float(b), float(c))),
         0x08 | 0x0b..=0x0e | 0x1d..=0x1f => words(op, a, b, c),
+        0x20..=0x28 => phase_answer(table, op, a, b, c),
         0x07 | 0x0f | 0x18..=0x19 | 0x1b => pattern(tables(powers, table, op, float(a))),
         _ => pattern(unary(op, float(a))),
     }

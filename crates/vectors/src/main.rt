@@ -1,6 +1,8 @@
 // Replays the oracle's stored answers (stdin, a line each) and prints how many of them the library
-// gives: "P of T". The lines are those of `leaf_vectors` of oracle/programs, which has their format.
+// gives: "P of T". The lines are those of `leaf_vectors` and then of `phase_vectors` of
+// oracle/programs, which has their format.
 mod answer;
+mod phases;
 mod random;
 mod text;
 
@@ -8,6 +10,7 @@ use answer::answer;
 use floats::POWERS;
 use libc::STDIN_FILENO;
 use libc::STDOUT_FILENO;
+use phases::ReadsRun;
 use random::Run;
 ghost use mathlib.Core.Path.{_≡_};
 ghost use Rattle.floats.specs.Exp2.{entries};
@@ -18,6 +21,40 @@ const LINES: usize = 100000;
 struct Tally {
     passed: u64,
     total: u64,
+}
+
+// A run's cases, and the hash of its answers.
+struct Hashed {
+    count: u64,
+    hash: u64,
+}
+
+// A run of read lists has two modes beside its count.
+fn ran(powers: &[u32; 257], table: &[f32; 1025], op: u32, a: u32, b: u32) -> Hashed
+    requires { ⌜ now powers ≡ entries ⌝ }
+{
+    if op == 0x29 {
+        let run = ReadsRun {
+            mode0: b / 0x1_0000 % 0x100,
+            mode1: b / 0x100_0000,
+            seed: a,
+            count: b % 0x1_0000,
+        };
+        Hashed {
+            count: run.count as u64,
+            hash: phases::reads_hash(powers, table, run),
+        }
+    } else {
+        let run = Run {
+            op,
+            seed: a,
+            count: b,
+        };
+        Hashed {
+            count: b as u64,
+            hash: random::hash(powers, table, run),
+        }
+    }
 }
 
 // One line: an answer, or a run of random ones, which counts as many as it has and passes whole.
@@ -36,16 +73,11 @@ fn replay(powers: &[u32; 257], table: &[f32; 1025], line: &[u8; 39]) -> Tally
             total: 1,
         }
     } else {
-        let run = Run {
-            op: op - 0x80,
-            seed: a,
-            count: b,
-        };
-        let hash = random::hash(powers, table, run);
-        let right = hash == ((c as u64) << 32) + (e as u64);
+        let run = ran(powers, table, op - 0x80, a, b);
+        let right = run.hash == ((c as u64) << 32) + (e as u64);
         Tally {
-            passed: if right { b as u64 } else { 0 },
-            total: b as u64,
+            passed: if right { run.count } else { 0 },
+            total: run.count,
         }
     }
 }

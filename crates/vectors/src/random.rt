@@ -12,14 +12,14 @@ pub struct Run {
 }
 
 // The next state of a 32-bit xorshift generator.
-fn next(s: u32) -> u32 {
+pub fn next(s: u32) -> u32 {
     let s = s ^ (s << 13);
     let s = s ^ (s >> 17);
     s ^ (s << 5)
 }
 
 // 64-bit FNV-1a, a word at a time: (h ^ word) × 0x100000001b3, wrapping.
-fn folded(h: u64, word: u32) -> u64 {
+pub fn folded(h: u64, word: u32) -> u64 {
     let h = h ^ (word as u64);
     let low = h % 0x1_0000_0000 * 0x1b3;
     let high = h / 0x1_0000_0000 % 0x1_0000_0000 * 0x1b3 % 0x1_0000_0000 * 0x1_0000_0000;
@@ -39,7 +39,7 @@ fn tamed(seed: u32, w: u32) -> u32 {
 // Whether the operation's first, and its second and third input are words and no floats.
 fn first_is_word(op: u32) -> bool {
     match op {
-        0x0b | 0x0d | 0x1e..=0x1f => true,
+        0x0b | 0x0d | 0x1e..=0x1f | 0x27..=0x28 => true,
         _ => false,
     }
 }

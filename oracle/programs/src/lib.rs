@@ -1,5 +1,7 @@
-//! What the vector programs share: the generator, the hash and the leaves
-//! by operation code.
+//! What the vector programs share: the generator, the hash, the leaves
+//! by operation code, and the cases of the phase side.
+
+pub mod phases;
 
 use ruled::api::lanes;
 

@@ -2,8 +2,8 @@
 use borrow.Author.Needs.{needs}
 use borrow.Author.Tests.{eq-eqb, ne-eqb}
 use Rattle.probe.specs.Leaves.{powersLeaf}
-use Rattle.probe.proofs.powers_leaf.Statement.{statement}
-use Rattle.probe.proofs.powers_leaf.Tie as tie
+use Rattle.probe.proofs.leaf.powers_leaf.Statement.{statement}
+use Rattle.probe.proofs.leaf.powers_leaf.Tie as tie
 
 pub powers-leaf-spec : {M : Type 1} → statement M
 unfolding powersLeaf

@@ -5,13 +5,14 @@ use native.Mathlib.Omega.{arith}
 use borrow.Author.Needs.{needs}
 use lib.ListN.{length}
 use Rattle.floats.specs.Exp2.{entries}
-use Rattle.probe.specs.Leaves.{Ran}
+use Rattle.probe.specs.Leaves.{powersLeafAt}
+use Rattle.probe.specs.Runs.{Ran}
 use Rattle.probe.proofs.Run.{ran-none, ran-more}
-use Rattle.probe.proofs.probe_powers_run.Statement.{statement}
-use Rattle.probe.proofs.probe_powers_run.Tie as tie
+use Rattle.probe.proofs.leaf.probe_powers_run.Statement.{statement}
+use Rattle.probe.proofs.leaf.probe_powers_run.Tie as tie
 
 abbrev Inv-loop : tie.InvT-loop
-Inv-loop leaf xs out₀ powers n i₀ out i = (i ≤ n) × (n ≡ min (length xs) (length out₀)) × (powers ≡ entries) × Ran leaf xs out₀ out i
+Inv-loop leaf xs out₀ powers n i₀ out i = (i ≤ n) × (n ≡ min (length xs) (length out₀)) × (powers ≡ entries) × Ran (powersLeafAt leaf xs) out₀ out i
 
 abbrev μ-loop : tie.MeasureT-loop
 μ-loop leaf xs out₀ powers n i₀ out i = n - i
@@ -21,7 +22,7 @@ least-requires c κs = search needs
 
 loop-holds : tie.Need-loop-holds Inv-loop μ-loop
 unfolding entries
-loop-holds c = (omega arith, c .least .ensures, refl, ran-none _ _ _)
+loop-holds c = (omega arith, c .least .ensures, refl, ran-none _ _)
 
 mul-powers-leaf : tie.Need-mul-powers-leaf Inv-loop μ-loop
 mul-powers-leaf c = search needs
@@ -45,7 +46,7 @@ loop-less : tie.Need-loop-less Inv-loop μ-loop
 loop-less c = search needs
 
 loop-again : tie.Need-loop-again Inv-loop μ-loop
-loop-again c = let l = c .before .before .before .before .loop in (omega arith, l .inv .1, l .inv .2, ran-more _ _ _ _ _ _ (omega arith) (l .inv .3) (c .powers-leaf .ensures))
+loop-again c = let l = c .before .before .before .before .loop in (omega arith, l .inv .1, l .inv .2, ran-more _ _ _ _ _ (omega arith) (l .inv .3) (c .powers-leaf .ensures))
 
 same-length : tie.Need-same-length Inv-loop μ-loop
 same-length c = search needs

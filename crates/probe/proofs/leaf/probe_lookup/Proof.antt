@@ -2,8 +2,8 @@
 use borrow.Author.Needs.{needs}
 use borrow.Author.Tests.{lt-ltb, le-ltb}
 use Rattle.probe.specs.Leaves.{lookupOrZero}
-use Rattle.probe.proofs.probe_lookup.Statement.{statement}
-use Rattle.probe.proofs.probe_lookup.Tie as tie
+use Rattle.probe.proofs.leaf.probe_lookup.Statement.{statement}
+use Rattle.probe.proofs.leaf.probe_lookup.Tie as tie
 
 pub probe-lookup-spec : {M : Type 1} → statement M
 unfolding lookupOrZero
