@@ -1,158 +1,221 @@
--- A float above 0 and below a bound, cast to a whole number. Assumes nothing.
+-- Casts of a float to a whole number, by its bit pattern. Assumes nothing.
 use mathlib.Core.Path.{_≡_, refl, sym, ap, _∙_, subst}
-use mathlib.Core.Bool.{Bool, true, false, cond, not}
+use mathlib.Core.Logic.{inl, inr}
+use mathlib.Core.Bool.{Bool, false, cond}
 use Prim.Native.Nat.{ℕ, zero, suc, _+_, _-_, _*_, _/_, _%_, _^_, _<_, _≤_, min}
-use native.Mathlib.Nat.{div-lt-iff-lt-mul, le-div-iff-mul-le, zero-div, le-of-lt, lt-of-le-of-lt, mul-le-mul-left, mul-lt-mul-of-pos-right}
+use native.Mathlib.Decide.{decLe}
+use native.Mathlib.Nat.{eq-or-lt-of-le, le-trans, le-of-eq, le-of-lt, lt-of-lt-of-le, lt-of-le-of-lt, lt-of-not-le, mul-one, mul-zero, zero-mul, zero-div, mul-le-mul-left, div-lt-iff-lt-mul, le-div-iff-mul-le, mul-le-mul, mul-assoc}
 use native.Mathlib.Omega.{arith}
-use lib.IntN.{ℤ, pos, negsuc, negℤ}
-use lib.Dec.{T, ltb, lit<, lit≤, lt→ltb}
-use lib.Ieee.{Float, nan, inf, fin, binary32, up, down, lt, neg, toUnsigned, toSigned, round, units, odd, ofInt, ofBits}
-use lib.Ieee.Fits.{down-pos, round-is}
+use lib.IntN.{pos, negℤ}
+use lib.Dec.{leb}
+use lib.Pow.{pow-add, pow-pos, pow-mono, shl-lt}
+use lib.Ieee.{Float, nan, inf, fin, binary32, up, down, ofBits, isNan, toUnsigned, toSigned}
+use lib.Ieee.Fits.{down-pos}
 use lib.Ieee.Exact.{HasValue}
-use borrow.Author.Tests.{lt-ltb, le-ltb, lt-leb, ltb-true, ltb-false}
-use Rattle.floats.specs.Casts.{asWord, castWord, asSigned}
-use Rattle.floats.proofs.Values.{lt-values}
+use lib.Ieee.Nearest.{div-same}
+use borrow.Author.Tests.{lt-leb, le-leb, ne-eqb}
+use Rattle.floats.specs.Casts.{asWord, castWord}
+use Rattle.floats.specs.Pattern.{fieldOf, significandOf, exponentOf}
+use Rattle.floats.proofs.Patterns.{value, significand-lt, significand-ge, infinite}
 
-apart : {A : Type 0} → true ≡ false → A
-apart t = absurd (subst T t tt)
+-- ---- the whole part of the f32 with the pattern b
+abbrev pub wholeOf : ℕ → ℕ
+wholeOf b = significandOf b * 2 ^ exponentOf b / 2 ^ 149
 
-abbrev zer : Float
-zer = fin false 0 (pos 0)
+-- over any number, since `omega` takes no 2 ^ 149
+none : (z : ℕ) → z < 1 → 0 ≡ z
+none z h = omega arith
 
--- x / 1 against 2 ^ k
-under : (m : ℕ) (e : ℤ) (k : ℕ) → lt (fin false m e) (fin false 1 (pos k)) ≡ ltb (m * up e * 1) (2 ^ k * down e)
-under m e k = lt-values (fin false m e) (fin false 1 (pos k)) (m * up e) (down e) (2 ^ k) 1 (down-pos e) (lit< tt) (refl, refl) (refl, ap (λ (z : ℕ). z * 1) (omega arith))
+least : (z k : ℕ) → z ≤ k → z ≡ min z k
+least z k h = omega arith
 
--- what `truncating_f32_to_u64` asks and gives, above 0 and below 2 ^ 31
-pub record Cut (x : Float) : Type 0 where
-  pub above : T (lt (fin true 1 (pos 0)) x)
-  pub below : T (lt x (fin false 1 (pos 64)))
-  pub small : toUnsigned 64 x < 2 ^ 31
-  pub cast : castWord x ≡ toUnsigned 64 x
-  pub back : castWord (neg x) ≡ (2 ^ 32 - toUnsigned 64 x) % 2 ^ 32
+most : (z k : ℕ) → k ≤ z → k ≡ min z k
+most z k h = omega arith
+
+-- below 2 ^ k, and 2 ^ k or more, by the exponent
+whole-lt : (b k : ℕ) → exponentOf b ≤ k + 125 → wholeOf b < 2 ^ k
+whole-lt b k h = div-lt-iff-lt-mul (pow-pos 149) .1 (lt-of-lt-of-le (shl-lt 24 (exponentOf b) (significand-lt b)) (le-trans (pow-mono (up (exponentOf b) k h)) (le-of-eq (pow-add 2 k 149))))
+  where
+    up : (e k : ℕ) → e ≤ k + 125 → 24 + e ≤ k + 149
+    up e k h = omega arith
+
+whole-ge : (b k : ℕ) → k + 126 ≤ exponentOf b → 2 ^ k ≤ wholeOf b
+whole-ge b k h =
+    le-div-iff-mul-le (pow-pos 149) .1
+    (le-trans (le-of-eq (sym (pow-add 2 k 149))) (le-trans (pow-mono (up (exponentOf b) k h)) (le-trans (le-of-eq (pow-add 2 23 (exponentOf b))) (mul-le-mul (significand-ge b (omega arith)) (le-of-eq refl)))))
+  where
+    up : (e k : ℕ) → k + 126 ≤ e → k + 149 ≤ 23 + e
+    up e k h = omega arith
+
+below-one : (b : ℕ) → b < 1602224128 → b / 8388608 < 127 → 0 ≡ wholeOf b
+below-one b B h = none (wholeOf b) (whole-lt b 0 (omega arith))
+
+taken-down : (b : ℕ) → b < 1602224128 → 127 ≤ b / 8388608 → (b % 8388608 + 8388608) * 1099511627776 / 2 ^ ((190 - b / 8388608) % 64) ≡ wholeOf b
+taken-down b B h =
+    let d = (b % 8388608 + 8388608) * 1099511627776 in
+    let e : significandOf b ≡ b % 8388608 + 8388608 = rw (ne-eqb (fieldOf b) 0 (some b B h)) (omega arith) in
+    ap (λ (s : ℕ). d / 2 ^ s) (shift b h) ∙ div-same d (2 ^ (190 - b / 8388608)) (significandOf b * 2 ^ exponentOf b) (2 ^ 149) (pow-pos (190 - b / 8388608)) (pow-pos 149) (rw e (powers (b % 8388608 + 8388608)))
+  where
+    some : (b : ℕ) → b < 1602224128 → 127 ≤ b / 8388608 → fieldOf b ≡ 0 → ⊥
+    some b B h e = omega arith
+
+    shift : (b : ℕ) → 127 ≤ b / 8388608 → (190 - b / 8388608) % 64 ≡ 190 - b / 8388608
+    shift b h = omega arith
+
+    places : 189 ≡ exponentOf b + (190 - b / 8388608)
+    places = omega arith
+
+    powers : (m : ℕ) → m * 1099511627776 * 2 ^ 149 ≡ m * 2 ^ exponentOf b * 2 ^ (190 - b / 8388608)
+    powers m =
+        mul-assoc m 1099511627776 (2 ^ 149)
+        ∙ ap (λ (z : ℕ). m * z) (sym (pow-add 2 40 149) ∙ ap (λ (z : ℕ). 2 ^ z) places ∙ pow-add 2 (exponentOf b) (190 - b / 8388608))
+        ∙ sym (mul-assoc m (2 ^ exponentOf b) (2 ^ (190 - b / 8388608)))
+
+-- the program's form: below 1 the digits are multiplied by 0
+module _ (b : ℕ) (B : b < 1602224128) where
+  pub digits-lt : (b % 8388608 + 8388608) * ((b / 8388608 + 129) / 256) < 16777216
+  digits-lt = lt-of-le-of-lt (mul-le-mul-left (b % 8388608 + 8388608) one) (omega arith)
+    where
+      one : (b / 8388608 + 129) / 256 ≤ 1
+      one = omega arith
+
+  pub whole-part-is : (b % 8388608 + 8388608) * ((b / 8388608 + 129) / 256) * 1099511627776 / 2 ^ ((190 - b / 8388608) % 64) ≡ wholeOf b
+  whole-part-is = elim (decLe 127 (b / 8388608)) [
+    | yes h ↦ rw (one h, mul-one) (taken-down b B h)
+    | no g ↦ rw (none-of (lt-of-not-le g), mul-zero, zero-mul, zero-div) (below-one b B (lt-of-not-le g))
+  ]
+    where
+      one : 127 ≤ b / 8388608 → (b / 8388608 + 129) / 256 ≡ 1
+      one h = omega arith
+
+      none-of : b / 8388608 < 127 → (b / 8388608 + 129) / 256 ≡ 0
+      none-of h = omega arith
+
+-- ---- by the value
+cut : (x : Float) (s : Bool) (n : ℕ) → HasValue x s n (2 ^ 149) → (toUnsigned 64 x ≡ cond s 0 (min (n / 2 ^ 149) (2 ^ 64 - 1))) × (toSigned 31 x ≡ cond s (negℤ (pos (min (n / 2 ^ 149) (2 ^ 31)))) (pos (min (n / 2 ^ 149) (2 ^ 31 - 1))))
+unfolding toUnsigned toSigned
+cut nan s n v = absurd v
+cut (inf t) s n v = absurd v
+cut (fin t m e) s n v = rw (v .0, div-same (m * up e) (down e) n (2 ^ 149) (down-pos e) (pow-pos 149) (v .1)) (refl, refl)
 
 back-at : (r : ℕ) → asWord (negℤ (pos r)) ≡ (2 ^ 32 - r) % 2 ^ 32
 unfolding asWord
 back-at zero = refl
 back-at (suc r) = omega arith
 
-cut-at : (m : ℕ) (e : ℤ) → m * up e < 2 ^ 31 * down e → Cut (fin false m e)
-unfolding lt toUnsigned toSigned castWord asWord neg
-cut-at m e h =
-    let q = m * up e / down e in
-    let l : q < 2 ^ 31 = div-lt-iff-lt-mul (down-pos e) .1 h in
-    let d = down-pos e in
-    let same : min q (2 ^ 31) ≡ min q (2 ^ 64 - 1) = omega arith in
-    record {
-      above = lt→ltb 0 (1 * down e + m * up e * 1) (omega arith);
-      below = lt→ltb (m * up e * 1) (2 ^ 64 * down e) (omega arith);
-      small = omega arith;
-      cast = omega arith;
-      back = rw same (back-at (min q (2 ^ 64 - 1)));
-    }
+pub word-of-nan : 0 ≡ castWord nan
+unfolding castWord asWord toSigned
+word-of-nan = refl
 
-pub cut : (x : Float) → lt zer x ≡ true → lt x (fin false 1 (pos 31)) ≡ true → Cut x
-unfolding lt
-cut nan p q = apart (sym p)
-cut (inf false) p q = apart (sym q)
-cut (inf true) p q = apart (sym p)
-cut (fin true m e) p q = apart (sym p)
-cut (fin false m e) p q = cut-at m e (let h = ltb-true (m * up e * 1) (2 ^ 31 * down e) (sym (under m e 31) ∙ q) in omega arith)
+pub unsigned-of-nan : 0 ≡ toUnsigned 64 nan
+unfolding toUnsigned
+unsigned-of-nan = refl
 
--- from 2 ^ 31 on
-past : (m : ℕ) (e : ℤ) → lt (fin false m e) (fin false 1 (pos 31)) ≡ false → 2 ^ 31 ≤ m * up e / down e
-past m e q = le-div-iff-mul-le (down-pos e) .1 (let h = ltb-false (m * up e * 1) (2 ^ 31 * down e) (sym (under m e 31) ∙ q) in omega arith)
-
-pub most : (x : Float) → lt zer x ≡ true → lt x (fin false 1 (pos 31)) ≡ false → 2147483647 ≡ castWord x
-unfolding lt toSigned castWord asWord
-most nan p q = apart (sym p)
-most (inf false) p q = refl
-most (inf true) p q = apart (sym p)
-most (fin true m e) p q = apart (sym p)
-most (fin false m e) p q = let h = past m e q in omega arith
-
-pub least : (x : Float) → lt zer (neg x) ≡ true → lt (neg x) (fin false 1 (pos 31)) ≡ false → 2147483648 ≡ castWord x
-unfolding lt toSigned castWord asWord neg
-least nan p q = apart (sym p)
-least (inf false) p q = apart (sym p)
-least (inf true) p q = refl
-least (fin true m e) p q = let h = past m e q in let l : min (m * up e / down e) (2 ^ 31) ≡ 2 ^ 31 = omega arith in rw l
-least (fin false m e) p q = apart (sym p)
-
-no-size : (m : ℕ) (e : ℤ) → lt zer (fin false m e) ≡ false → m * up e / down e ≡ 0
-unfolding lt
-no-size m e p = let z : m * up e ≡ 0 = (let h = ltb-false (0 * down e) (m * up e * 1) p in omega arith) in rw (z, zero-div)
-
-pub none : (x : Float) → lt zer x ≡ false → lt zer (neg x) ≡ false → 0 ≡ castWord x
-unfolding lt toSigned castWord asWord neg
-none nan p q = refl
-none (inf false) p q = apart p
-none (inf true) p q = apart q
-none (fin true m e) p q = rw (no-size m e q)
-none (fin false m e) p q = rw (no-size m e p)
-
-neg-neg : (x : Float) → neg (neg x) ≡ x
-unfolding neg
-neg-neg nan = refl
-neg-neg (inf true) = refl
-neg-neg (inf false) = refl
-neg-neg (fin true m e) = refl
-neg-neg (fin false m e) = refl
-
-pub back-word : (x : Float) → lt zer (neg x) ≡ true → lt (neg x) (fin false 1 (pos 31)) ≡ true → (2 ^ 32 - toUnsigned 64 (neg x)) % 2 ^ 32 ≡ castWord x
-back-word x p q = rw (neg-neg x) at (sym (cut (neg x) p q .back))
-
--- ---- a negative number's float is that of its size, negated
-neg-odd : (d q k l : ℕ) → neg (odd d false q k l) ≡ odd d true q k l
-unfolding neg odd
-neg-odd d zero k l = refl
-neg-odd d (suc q) k l = refl
-
-neg-units : (q k : ℕ) → neg (units binary32 false q k) ≡ units binary32 true q k
-unfolding units neg
-neg-units q k = go (ltb (q * 2 ^ k) (2 ^ 277))
+-- ---- by the pattern
+-- a size from 2 ^ 31 on, infinity's too, is cut to 2 ^ 31, whose pattern is 1325400064
+pub clamped : (b : ℕ) → wholeOf (min (b % 2147483648) 1325400064) ≡ min (wholeOf b) (2 ^ 31)
+clamped b = elim (decLe 1325400064 (b % 2147483648)) [
+  | yes h ↦ ap wholeOf (top h) ∙ most (wholeOf b) (2 ^ 31) (whole-ge b 31 (omega arith))
+  | no g ↦ let h = lt-of-not-le g in ap wholeOf (under h) ∙ size ∙ least (wholeOf b) (2 ^ 31) (le-of-lt (whole-lt b 31 (omega arith)))
+]
   where
-    go : (t : Bool) → neg (cond t (odd 25 false q k 149) (inf false)) ≡ cond t (odd 25 true q k 149) (inf true)
-    go true = neg-odd 25 q k 149
-    go false = refl
+    top : 1325400064 ≤ b % 2147483648 → min (b % 2147483648) 1325400064 ≡ 1325400064
+    top h = omega arith
 
-neg-round : (n d : ℕ) → neg (round binary32 false n d) ≡ round binary32 true n d
-neg-round n d = simp (round-is, neg-units)
+    under : b % 2147483648 < 1325400064 → min (b % 2147483648) 1325400064 ≡ b % 2147483648
+    under h = omega arith
 
-pub signed-back : (w : ℕ) → 2 ^ 31 ≤ w → w < 2 ^ 32 → neg (ofInt binary32 (pos (4294967295 - w + 1))) ≡ ofInt binary32 (asSigned w)
-unfolding asSigned ofInt
-signed-back w h g = let e : 4294967295 - w + 1 ≡ suc (4294967296 - suc w) = omega arith in rw (le-ltb w (2 ^ 31) h, lt-leb (2 ^ 32) w g, neg-round, e)
+    field : fieldOf (b % 2147483648) ≡ fieldOf b
+    field = omega arith
 
--- ---- the cast to an unsigned number of 64 digits
-pub record Unsigned (x : Float) : Type 0 where
-  pub above : T (lt (fin true 1 (pos 0)) x)
-  pub below : T (lt x (fin false 1 (pos 64)))
+    rest : b % 2147483648 % 8388608 ≡ b % 8388608
+    rest = omega arith
 
-over : (x : Float) → lt zer x ≡ true → T (lt (fin true 1 (pos 0)) x)
-unfolding lt
-over nan p = apart (sym p)
-over (inf false) p = tt
-over (inf true) p = apart (sym p)
-over (fin true m e) p = apart (sym p)
-over (fin false m e) p = let d = down-pos e in lt→ltb 0 (1 * down e + m * up e * 1) (omega arith)
+    size : wholeOf (b % 2147483648) ≡ wholeOf b
+    size = rw (field, rest)
 
-pub unsigned : (x : Float) → lt zer x ≡ true → lt x (fin false 1 (pos 64)) ≡ true → Unsigned x
-unsigned x p q = record { above = over x p; below = subst T (sym q) tt }
+module _ (b : ℕ) (B : b < 4294967296) (N : isNan (ofBits binary32 b) ≡ false) where
+  -- finite, or an infinity
+  kinds : (P : Float → Type 0) → (fieldOf b < 255 → HasValue (ofBits binary32 b) (leb 2147483648 b) (significandOf b * 2 ^ exponentOf b) (2 ^ 149) → P (ofBits binary32 b)) → (fieldOf b ≡ 255 → P (inf (leb 2147483648 b))) → P (ofBits binary32 b)
+  kinds P f g = elim (eq-or-lt-of-le field) [ inl e ↦ subst P (sym (infinite b e N)) (g e) | inr l ↦ f l (value b l) ]
+    where
+      field : fieldOf b ≤ 255
+      field = omega arith
 
-pub most-unsigned : (x : Float) → lt zer x ≡ true → lt x (fin false 1 (pos 64)) ≡ false → 18446744073709551615 ≡ toUnsigned 64 x
-unfolding lt toUnsigned
-most-unsigned nan p q = apart (sym p)
-most-unsigned (inf false) p q = refl
-most-unsigned (inf true) p q = apart (sym p)
-most-unsigned (fin true m e) p q = apart (sym p)
-most-unsigned (fin false m e) p q =
-    let h : 18446744073709551616 ≤ m * up e / down e = le-div-iff-mul-le (down-pos e) .1 (let h = ltb-false (m * up e * 1) (2 ^ 64 * down e) (sym (under m e 64) ∙ q) in omega arith) in
-    omega arith
+  pub word-up : b < 2147483648 → min (wholeOf (min (b % 2147483648) 1325400064)) 2147483647 ≡ castWord (ofBits binary32 b)
+  unfolding castWord asWord toSigned
+  word-up h = kinds (λ (x : Float). min (wholeOf (min (b % 2147483648) 1325400064)) 2147483647 ≡ castWord x)
+      (λ l v. rw (cut (ofBits binary32 b) _ _ v .1, lt-leb 2147483648 b h, clamped b) (closer (wholeOf b)))
+      (λ e. rw (lt-leb 2147483648 b h, clamped b) (top (wholeOf b) (whole-ge b 31 (omega arith))))
+    where
+      closer : (z : ℕ) → min (min z (2 ^ 31)) 2147483647 ≡ min z (2 ^ 31 - 1)
+      closer z = omega arith
 
-pub no-unsigned : (x : Float) → lt zer x ≡ false → toUnsigned 64 x ≡ 0
-unfolding lt toUnsigned
-no-unsigned nan p = refl
-no-unsigned (inf false) p = apart p
-no-unsigned (inf true) p = refl
-no-unsigned (fin true m e) p = refl
-no-unsigned (fin false m e) p = rw (no-size m e p)
+      top : (z : ℕ) → 2 ^ 31 ≤ z → min (min z (2 ^ 31)) 2147483647 ≡ 2147483647
+      top z h = omega arith
+
+  pub word-down : 2147483648 ≤ b → (4294967296 - wholeOf (min (b % 2147483648) 1325400064)) % 4294967296 ≡ castWord (ofBits binary32 b)
+  unfolding castWord toSigned
+  word-down h = kinds (λ (x : Float). (4294967296 - wholeOf (min (b % 2147483648) 1325400064)) % 4294967296 ≡ castWord x)
+      (λ l v. rw (cut (ofBits binary32 b) _ _ v .1, le-leb 2147483648 b h, clamped b) (sym (back-at (min (wholeOf b) (2 ^ 31)))))
+      (λ e. rw (le-leb 2147483648 b h, clamped b) (rw (sym (most (wholeOf b) (2 ^ 31) (whole-ge b 31 (omega arith)))) (sym (back-at (2 ^ 31)))))
+
+  unsigned-below : b < 1602224128 → wholeOf b ≡ toUnsigned 64 (ofBits binary32 b)
+  unfolding toUnsigned
+  unsigned-below h = kinds (λ (x : Float). wholeOf b ≡ toUnsigned 64 x)
+      (λ l v. rw (cut (ofBits binary32 b) _ _ v .0, lt-leb 2147483648 b (omega arith)) (least (wholeOf b) (2 ^ 64 - 1) (under (wholeOf b) (whole-lt b 64 (omega arith)))))
+      (λ e. absurd (omega arith))
+    where
+      under : (z : ℕ) → z < 2 ^ 64 → z ≤ 2 ^ 64 - 1
+      under z h = omega arith
+
+  unsigned-past : 1602224128 ≤ b → b < 2147483648 → 18446744073709551615 ≡ toUnsigned 64 (ofBits binary32 b)
+  unfolding toUnsigned
+  unsigned-past l h = kinds (λ (x : Float). 18446744073709551615 ≡ toUnsigned 64 x)
+      (λ f v. rw (cut (ofBits binary32 b) _ _ v .0, lt-leb 2147483648 b h) (most (wholeOf b) (2 ^ 64 - 1) (past (wholeOf b) (whole-ge b 64 (omega arith)))))
+      (λ e. rw (lt-leb 2147483648 b h))
+    where
+      past : (z : ℕ) → 2 ^ 64 ≤ z → 2 ^ 64 - 1 ≤ z
+      past z h = omega arith
+
+  unsigned-negative : 2147483648 ≤ b → 0 ≡ toUnsigned 64 (ofBits binary32 b)
+  unfolding toUnsigned
+  unsigned-negative h = kinds (λ (x : Float). 0 ≡ toUnsigned 64 x) (λ f v. rw (cut (ofBits binary32 b) _ _ v .0, le-leb 2147483648 b h)) (λ e. rw (le-leb 2147483648 b h))
+
+-- a pattern times 0 where its sign is set
+pub kept : (b : ℕ) → b < 2147483648 → b * (1 - b / 2147483648) ≡ b
+kept b h = rw (clear b h) (mul-one b)
+  where
+    clear : (b : ℕ) → b < 2147483648 → 1 - b / 2147483648 ≡ 1
+    clear b h = omega arith
+
+pub left-out : (b : ℕ) → 2147483648 ≤ b → b * (1 - b / 2147483648) ≡ 0
+left-out b h = rw (set b h) (mul-zero b)
+  where
+    set : (b : ℕ) → 2147483648 ≤ b → 1 - b / 2147483648 ≡ 0
+    set b h = omega arith
+
+module _ (b : ℕ) (B : b < 4294967296) (N : isNan (ofBits binary32 b) ≡ false) where
+  abbrev c : ℕ
+  c = b * (1 - b / 2147483648)
+
+  pub unsigned-small : c < 1602224128 → wholeOf (min c 1602224127) ≡ toUnsigned 64 (ofBits binary32 b)
+  unsigned-small h = elim (decLe 2147483648 b) [
+    | yes g ↦ rw (left-out b g) (unsigned-negative b B N g)
+    | no f ↦
+        let g = lt-of-not-le f in
+        let e = kept b g in
+        rw e (ap wholeOf (under b (subst (λ (z : ℕ). z < 1602224128) e h)) ∙ unsigned-below b B N (subst (λ (z : ℕ). z < 1602224128) e h))
+  ]
+    where
+      under : (b : ℕ) → b < 1602224128 → min b 1602224127 ≡ b
+      under b h = omega arith
+
+  pub unsigned-large : 1602224128 ≤ c → 18446744073709551615 ≡ toUnsigned 64 (ofBits binary32 b)
+  unsigned-large h = elim (decLe 2147483648 b) [
+    | yes g ↦ absurd (never (subst (λ (z : ℕ). 1602224128 ≤ z) (left-out b g) h))
+    | no f ↦ let g = lt-of-not-le f in unsigned-past b B N (subst (λ (z : ℕ). 1602224128 ≤ z) (kept b g) h) g
+  ]
+    where
+      never : 1602224128 ≤ 0 → ⊥
+      never l = omega arith

@@ -1,85 +1,22 @@
--- `floor` by adding and taking off 2 ^ 23. For a size n / d below 2 ^ 23 the sum rounds to a whole number w, the whole part of n / d + 2 ^ 23 or one more. Assumes nothing.
+-- `floor` by adding and taking off 2 ^ 23 with the sign of x, in each of its ways. Assumes nothing.
 use mathlib.Core.Path.{_≡_, refl, sym, ap, _∙_, subst}
-use mathlib.Core.Bool.{Bool, true, false, cond, not, _&&_}
-use Prim.Native.Nat.{ℕ, zero, suc, _+_, _-_, _*_, _/_, _%_, _^_, _<_, _≤_, compare, Ordering, Ordering·lt, compare·zero-suc}
-use native.Mathlib.Nat.{zero-mod, lt-irrefl, le-of-lt, mul-one, mul-assoc, mul-comm, mul-right-comm, mul-pos, add-mul, mul-le-mul-right, mul-lt-mul-of-pos-right, le-of-eq, le-trans, lt-of-lt-of-le, lt-of-le-of-lt, lt-of-not-le, not-le-of-lt, le-div-iff-mul-le, div-lt-iff-lt-mul, add-mul-div-right, add-mul-mod-self-right, div-add-mod', eq-of-mul-eq-mul-right}
+use mathlib.Core.Logic.{inl, inr}
+use mathlib.Core.Bool.{Bool, true, false, cond, _&&_, _||_, Bool·beq}
+use Prim.Native.Nat.{ℕ, zero, suc, _+_, _-_, _*_, _/_, _%_, _^_, _<_, _≤_}
+use native.Mathlib.Nat.{zero-lt-suc, zero-mul, lt-irrefl, le-of-lt, mul-one, mul-right-comm, mul-pos, le-of-eq, le-div-iff-mul-le, div-lt-iff-lt-mul, div-add-mod', eq-of-mul-eq-mul-right, eq-or-lt-of-le, mul-mod-left}
 use native.Mathlib.Omega.{arith}
 use native.Mathlib.Numerals.{add-one}
 use lib.IntN.{ℤ, pos, negsuc}
-use lib.Pow.{pow-pos, pow-mono}
-use lib.Dec.{T, leb, ltb, eqb, lit<, lit≤, ltb→lt}
-use lib.Ieee.{Float, nan, inf, fin, Format, binary32, up, down, size, units, round, add, sub, sum, neg, lt, fits, ofInt, ofBits, nearest}
-use lib.Ieee.Digits.{size-lt, size-le}
-use lib.Ieee.Fits.{and-l, and-r, cond-fits, down-pos, round-is, nearest-le, sub-fits, add-fits, neg-fits, ofInt-fits}
-use lib.Ieee.Exact.{HasValue, units-val}
-use lib.Ieee.Nearest.{closest, closest-same, nearest-ge}
+use lib.Pow.{pow-mono}
+use lib.Dec.{T, leb, ltb, eqb, lit<, ltb→lt, eqb→eq}
+use lib.Ieee.{Float, nan, inf, fin, binary32, up, down, size, units, odd, round, add, sub, sum, neg, lt, eq, fits, ofInt}
+use lib.Ieee.Fits.{and-l, and-r, cond-fits, down-pos, up-pos, sub-fits, ofInt-fits}
+use lib.Ieee.Exact.{HasValue}
 use lib.Ieee.Back.{round-whole, whole-unique}
-use borrow.Author.Tests.{lt-ltb, le-ltb, ltb-true, ltb-false, eqb-true, eqb-false, eq-eqb, ne-eqb}
-use Rattle.floats.specs.F32.{bits, 0f, 1f}
+use borrow.Author.Tests.{lt-ltb, le-ltb, ltb-true, ltb-false, eqb-true, eq-eqb, ne-eqb}
 use Rattle.floats.specs.Floor.{floorOf}
-use Rattle.floats.proofs.Values.{lt-values, add-whole, sub-whole}
-
--- ---- the sum with 2 ^ 23 rounds to a whole number
-exactly : (z : ℕ) → z ≤ 173 → 172 < z → z - 24 ≡ 149
-exactly z h k = omega arith
-
--- n / d from 2 ^ 23 on and below 2 ^ 24: its whole part in units of 2 ^ -149 has 173 digits, of which 149 are dropped
-dropped : (n d : ℕ) → 0 < d → 8388608 * d ≤ n → n < 16777216 * d → size (n * 2 ^ 149 / d) - 24 ≡ 149
-dropped n d D lo hi =
-    let w = n * 2 ^ 149 / d in
-    let l : 2 ^ 172 ≤ w = le-div-iff-mul-le D .1 (le-trans (le-of-eq (sym (mul-right-comm 8388608 d (2 ^ 149)))) (mul-le-mul-right (2 ^ 149) lo)) in
-    let h : w < 2 ^ 173 = div-lt-iff-lt-mul D .1 (lt-of-lt-of-le (mul-lt-mul-of-pos-right hi (pow-pos 149)) (le-of-eq (mul-right-comm 16777216 d (2 ^ 149)))) in
-    exactly (size w) (size-le w 173 h) (lt-of-not-le (λ (g : size w ≤ 172). not-le-of-lt (lt-of-lt-of-le (size-lt w) (pow-mono g)) l))
-
-unit : (x : Float) (w : ℕ) → HasValue x false (w * 2 ^ 149) (2 ^ 149) → HasValue x false w 1
-unit nan w v = v
-unit (inf t) w v = v
-unit (fin t m e) w v = (v .0, mul-one (m * up e) ∙ eq-of-mul-eq-mul-right (2 ^ 149) (pow-pos 149) (m * up e) (w * down e) (v .1 ∙ mul-right-comm w (2 ^ 149) (down e)))
-
-rounded : (n d : ℕ) → 0 < d → 8388608 * d ≤ n → n < 16777216 * d → closest n d ≤ 2 ^ 24 → HasValue (round binary32 false n d) false (closest n d) 1
-rounded n d D lo hi top =
-    let e : round binary32 false n d ≡ units binary32 false (closest n d) 149 =
-    round-is binary32 false n d
-    ∙ ap (λ (k : ℕ). units binary32 false (closest (n * 2 ^ 149) (d * 2 ^ k)) k) (dropped n d D lo hi)
-    ∙ ap (λ (k : ℕ). units binary32 false k 149) (closest-same (n * 2 ^ 149) (d * 2 ^ 149) n d (mul-pos D (pow-pos 149)) D (simp (mul-assoc, mul-comm d))) in
-    unit (round binary32 false n d) (closest n d) (rw e (units-val binary32 false (closest n d) 149 (lt-of-le-of-lt (mul-le-mul-right (2 ^ 149) top) (lit< tt))))
-
--- ---- what it is near to
-abbrev near : ℕ → ℕ → ℕ
-near n d = closest (n + 8388608 * d) d
-
-near-is : (n d : ℕ) → 0 < d → near n d ≡ nearest (n / d + 8388608) (compare (n % d * 2) d)
-near-is n d D = rw (add-mul-div-right n 8388608 D, add-mul-mod-self-right n 8388608 d)
-
-near-ge : (n d : ℕ) → 0 < d → n / d + 8388608 ≤ near n d
-near-ge n d D = rw (near-is n d D) (nearest-ge (n / d + 8388608) (compare (n % d * 2) d))
-
-near-le : (n d : ℕ) → 0 < d → near n d ≤ suc (n / d + 8388608)
-near-le n d D = rw (near-is n d D) (nearest-le (n / d + 8388608) (compare (n % d * 2) d))
-
--- the whole part of n / d, or one more
-abbrev part : ℕ → ℕ → ℕ
-part n d = near n d - 8388608
-
-abbrev two23 : Float
-two23 = fin false 1 (pos 23)
-
-abbrev shifted : Float → Float
-shifted x = sub binary32 (add binary32 x two23) two23
-
-sum-is : (m : ℕ) (e : ℤ) → add binary32 (fin false m e) two23 ≡ round binary32 false (m * up e + 8388608 * down e) (down e)
-unfolding add sum
-sum-is m e = rw (mul-one (m * up e), mul-one (down e))
-
-whole-part : (m : ℕ) (e : ℤ) → m * up e < 8388608 * down e → HasValue (shifted (fin false m e)) false (part (m * up e) (down e)) 1
-whole-part m e h =
-    let n = m * up e in
-    let d = down e in
-    let D = down-pos e in
-    let q : n / d < 8388608 = div-lt-iff-lt-mul D .1 h in
-    let g = near-ge n d D in
-    let l = near-le n d D in
-    sub-whole (add binary32 (fin false m e) two23) two23 (near n d) 8388608 (rw (sum-is m e) (rounded (n + 8388608 * d) d D (omega arith) (omega arith) (omega arith))) (refl, refl) (omega arith) (omega arith)
+use Rattle.floats.proofs.NearWhole.{near, part, two23, shifted, least, near-is, near-ge, near-le, sum-value, whole-part}
+use Rattle.floats.proofs.Values.{apart, lt-values, lt-negative, lt-across, sub-whole, sub-below, sub-negative, rise-round, fall-round, neg-round, neg-value}
 
 -- ---- the values of the definition
 module _ (m : ℕ) (e : ℤ) where
@@ -112,30 +49,34 @@ floor-fits nan h = h
 floor-fits (inf s) h = h
 floor-fits (fin s m e) h = cond-fits binary32 (eqb (m * up e % down e) 0) (fin s m e) (ofInt binary32 (cond s (negsuc (m * up e / down e)) (pos (m * up e / down e)))) h (ofInt-fits binary32 (cond s (negsuc (m * up e / down e)) (pos (m * up e / down e))))
 
--- ---- the program's ways, for x above 0
-apart : {A : Type 0} → true ≡ false → A
-apart t = absurd (subst T t tt)
+-- ---- a float that equals a whole number
+whole-eq : (p A d g c : ℕ) → 0 < g → p * d ≡ A * g → p * 1 ≡ c * g → A ≡ c * d
+whole-eq p A d g c G e v = eq-of-mul-eq-mul-right g G A (c * d) (sym e ∙ ap (λ (z : ℕ). z * d) (sym (mul-one p) ∙ v) ∙ mul-right-comm c g d)
 
+same-size : (t : Float) (s r : Bool) (m c : ℕ) (e : ℤ) → HasValue t s c 1 → eq t (fin r m e) ≡ true → m * up e ≡ c * down e
+unfolding eq
+same-size nan s r m c e v h = absurd v
+same-size (inf u) s r m c e v h = absurd v
+same-size (fin u n g) s r m c e v h =
+    let a = n * up g * down e in
+    let b = m * up e * down g in
+    whole-eq (n * up g) (m * up e) (down e) (down g) c (down-pos g) (eqb→eq a b (and-l (eqb a b) (Bool·beq u r || eqb a 0) (subst T (sym h) tt))) (v .1)
+
+multiple : (s : Bool) (m : ℕ) (e : ℤ) (k : ℕ) → m * up e ≡ k * down e → fin s m e ≡ floorOf (fin s m e)
+multiple s m e k h = sym (floor-whole m e s (rw (h, mul-mod-left k (down e))))
+
+-- ---- the program's ways
 abbrev one : Float
 one = fin false 1 (pos 0)
 
-least : (u : ℕ) → 0 < u → compare (0 * 2) u ≡ Ordering·lt
-least zero h = absurd (lt-irrefl 0 h)
-least (suc u) h = compare·zero-suc u
+abbrev zer : Float
+zer = fin false 0 (pos 0)
 
-neg-value : (x : Float) (k : ℕ) → HasValue x false k 1 → HasValue (neg x) true k 1
-unfolding neg
-neg-value nan k v = v
-neg-value (inf s) k v = v
-neg-value (fin s m e) k v = (ap not (v .0), v .1)
+-- the nearest whole number to x
+abbrev pub near-whole : Float → Float
+near-whole x = sub binary32 (add binary32 x (cond (lt x zer) (neg two23) two23)) (cond (lt x zer) (neg two23) two23)
 
-no-rest : (n d : ℕ) → n ≤ n / d * d → n % d ≡ 0
-no-rest n d h = omega (arith, div-add-mod' n d)
-
-module _ (m : ℕ) (e : ℤ) (held : T (fits binary32 (fin false m e))) (small : lt (fin false m e) two23 ≡ true) where
-  below : m * up e < 8388608 * down e
-  below = let h = ltb-true (m * up e * 1) (8388608 * down e) (sym (lt-values (fin false m e) two23 (m * up e) (down e) 8388608 1 (down-pos e) (lit< tt) (refl, refl) (refl, refl)) ∙ small) in omega arith
-
+module _ (m : ℕ) (e : ℤ) (below : m * up e < 8388608 * down e) where
   abbrev c : ℕ
   c = part (m * up e) (down e)
 
@@ -145,76 +86,138 @@ module _ (m : ℕ) (e : ℤ) (held : T (fits binary32 (fin false m e))) (small :
   quot-lt : m * up e / down e < 8388608
   quot-lt = div-lt-iff-lt-mul (down-pos e) .1 below
 
+  -- c against the size n / d: it is the quotient where it is not above, one more where it is
+  c-under : c * down e ≤ m * up e → c ≡ m * up e / down e
+  c-under f =
+      let g : c ≤ m * up e / down e = le-div-iff-mul-le (down-pos e) .1 f in
+      let l = near-ge (m * up e) (down e) (down-pos e) in
+      omega arith
+
+  c-over : m * up e < c * down e → c ≡ suc (m * up e / down e)
+  c-over f =
+      let g : m * up e / down e < c = div-lt-iff-lt-mul (down-pos e) .1 f in
+      let l = near-le (m * up e) (down e) (down-pos e) in
+      omega arith
+
+  -- nothing is left over: c is the quotient
+  exact : m * up e % down e ≡ 0 → c ≡ m * up e / down e
+  exact z = let w : near (m * up e) (down e) ≡ m * up e / down e + 8388608 = near-is (m * up e) (down e) (down-pos e) ∙ rw (z, least (down e) (down-pos e)) in omega arith
+
+  -- for x above 0
   over : lt (fin false m e) (shifted (fin false m e)) ≡ ltb (m * up e * 1) (c * down e)
   over = lt-values (fin false m e) (shifted (fin false m e)) (m * up e) (down e) c 1 (down-pos e) (lit< tt) (refl, refl) value
 
-  under : lt (shifted (fin false m e)) (fin false m e) ≡ ltb (c * down e) (m * up e * 1)
-  under = lt-values (shifted (fin false m e)) (fin false m e) c 1 (m * up e) (down e) (lit< tt) (down-pos e) value (refl, refl)
-
-  way-1 : lt (fin false m e) (shifted (fin false m e)) ≡ true → sub binary32 (shifted (fin false m e)) one ≡ floorOf (fin false m e)
-  way-1 t =
-      let f : m * up e < c * down e = let h = ltb-true (m * up e * 1) (c * down e) (sym over ∙ t) in omega arith in
-      let g : m * up e / down e < c = div-lt-iff-lt-mul (down-pos e) .1 f in
-      let l = near-le (m * up e) (down e) (down-pos e) in
+  up-less : T (fits binary32 (fin false m e)) → lt (fin false m e) (shifted (fin false m e)) ≡ true → sub binary32 (shifted (fin false m e)) one ≡ floorOf (fin false m e)
+  up-less held t =
+      let v = c-over (let h = ltb-true (m * up e * 1) (c * down e) (sym over ∙ t) in omega arith) in
       let q = quot-lt in
-      let v : c - 1 ≡ m * up e / down e = omega arith in
       whole-unique binary32 (sub binary32 (shifted (fin false m e)) one) (floorOf (fin false m e)) false (m * up e / down e) (sub-fits binary32 (shifted (fin false m e)) one) (floor-fits (fin false m e) held)
-      (subst (λ (k : ℕ). HasValue (sub binary32 (shifted (fin false m e)) one) false k 1) v (sub-whole (shifted (fin false m e)) one c 1 value (refl, refl) (omega arith) (omega arith)))
+      (subst (λ (k : ℕ). HasValue (sub binary32 (shifted (fin false m e)) one) false k 1) (pred v) (sub-whole (shifted (fin false m e)) one c 1 value (refl, refl) (omega arith) (omega arith)))
       (floor-up m e (omega arith))
+    where
+      pred : c ≡ suc (m * up e / down e) → c - 1 ≡ m * up e / down e
+      pred v = omega arith
 
-  way-2 : lt (fin false m e) (shifted (fin false m e)) ≡ false → shifted (fin false m e) ≡ floorOf (fin false m e)
-  way-2 t =
-      let f : c * down e ≤ m * up e = let h = ltb-false (m * up e * 1) (c * down e) (sym over ∙ t) in omega arith in
-      let g : c ≤ m * up e / down e = le-div-iff-mul-le (down-pos e) .1 f in
-      let l = near-ge (m * up e) (down e) (down-pos e) in
+  up-same : T (fits binary32 (fin false m e)) → lt (fin false m e) (shifted (fin false m e)) ≡ false → shifted (fin false m e) ≡ floorOf (fin false m e)
+  up-same held t =
+      let v = c-under (let h = ltb-false (m * up e * 1) (c * down e) (sym over ∙ t) in omega arith) in
       let q = quot-lt in
-      let v : c ≡ m * up e / down e = omega arith in
       whole-unique binary32 (shifted (fin false m e)) (floorOf (fin false m e)) false (m * up e / down e) (sub-fits binary32 (add binary32 (fin false m e) two23) two23) (floor-fits (fin false m e) held)
       (subst (λ (k : ℕ). HasValue (shifted (fin false m e)) false k 1) v value)
       (floor-up m e (omega arith))
 
-  -- for -x, with x below 0
-  exact : m * up e % down e ≡ 0 → c ≡ m * up e / down e
-  exact z =
-      let w : near (m * up e) (down e) ≡ m * up e / down e + 8388608 =
-      near-is (m * up e) (down e) (down-pos e) ∙ rw (z, least (down e) (down-pos e)) in
-      omega arith
+  -- for x below 0, of that size: the sum and the difference are those of the size, negated, but +0 for a 0
+  module _ (some : 0 < m * up e) (held : T (fits binary32 (fin true m e))) where
+    abbrev x : Float
+    x = fin true m e
 
-  neg-held : T (fits binary32 (fin true m e))
-  unfolding neg
-  neg-held = neg-fits binary32 (fin false m e) held
+    abbrev t : Float
+    t = sub binary32 (add binary32 x (neg two23)) (neg two23)
 
-  way-4 : lt (shifted (fin false m e)) (fin false m e) ≡ true → neg (add binary32 (shifted (fin false m e)) one) ≡ floorOf (fin true m e)
-  way-4 t =
-      let f : c * down e < m * up e = let h = ltb-true (c * down e) (m * up e * 1) (sym under ∙ t) in omega arith in
-      let g : c ≤ m * up e / down e = le-div-iff-mul-le (down-pos e) .1 (le-of-lt f) in
-      let l = near-ge (m * up e) (down e) (down-pos e) in
-      let q = quot-lt in
-      let v : c ≡ m * up e / down e = omega arith in
-      let z : (m * up e % down e ≡ 0 → ⊥) = λ r. lt-irrefl (m * up e) (subst (λ (k : ℕ). k < m * up e) (ap (λ (k : ℕ). k * down e) v ∙ omega (arith, div-add-mod' (m * up e) (down e))) f) in
-      whole-unique binary32 (neg (add binary32 (shifted (fin false m e)) one)) (floorOf (fin true m e)) true (suc (m * up e / down e)) (neg-fits binary32 (add binary32 (shifted (fin false m e)) one) (add-fits binary32 (shifted (fin false m e)) one)) (floor-fits (fin true m e) neg-held)
-      (neg-value (add binary32 (shifted (fin false m e)) one) (suc (m * up e / down e)) (subst (λ (k : ℕ). HasValue (add binary32 (shifted (fin false m e)) one) false k 1) (add-one c ∙ ap suc v) (add-whole (shifted (fin false m e)) one c 1 value (refl, refl) (omega arith))))
-      (floor-down m e z (omega arith))
+    abbrev S : Float
+    S = add binary32 (fin false m e) two23
 
-  way-5 : lt (shifted (fin false m e)) (fin false m e) ≡ false → neg (shifted (fin false m e)) ≡ floorOf (fin true m e)
-  way-5 t = go (eqb (m * up e % down e) 0) refl
-    where
-      f : m * up e ≤ c * down e
-      f = let h = ltb-false (c * down e) (m * up e * 1) (sym under ∙ t) in omega arith
+    abbrev N : ℕ
+    N = near (m * up e) (down e)
 
-      is : (k : ℕ) → c ≡ k → HasValue (floorOf (fin true m e)) true k 1 → neg (shifted (fin false m e)) ≡ floorOf (fin true m e)
-      is k v w = whole-unique binary32 (neg (shifted (fin false m e))) (floorOf (fin true m e)) true k (neg-fits binary32 (shifted (fin false m e)) (sub-fits binary32 (add binary32 (fin false m e) two23) two23)) (floor-fits (fin true m e) neg-held)
-          (neg-value (shifted (fin false m e)) k (subst (λ (k : ℕ). HasValue (shifted (fin false m e)) false k 1) v value)) w
+    t-is : t ≡ add binary32 (neg S) two23
+    unfolding sub add sum neg
+    t-is = ap (λ (y : Float). add binary32 y two23) (sym (neg-round (m * up e * 1 + 8388608 * down e) (down e * 1)))
 
-      go : (b : Bool) → eqb (m * up e % down e) 0 ≡ b → neg (shifted (fin false m e)) ≡ floorOf (fin true m e)
-      go true b =
-          let z = eqb-true (m * up e % down e) 0 b in
-          is (m * up e / down e) (exact z) (rw (floor-whole m e true z) (refl, mul-one (m * up e) ∙ omega (arith, div-add-mod' (m * up e) (down e))))
-      go false b =
-          let z = eqb-false (m * up e % down e) 0 b in
-          let l = near-le (m * up e) (down e) (down-pos e) in
-          let k : (c ≤ m * up e / down e → ⊥) = λ r. z (no-rest (m * up e) (down e) (le-trans f (mul-le-mul-right (down e) r))) in
-          is (suc (m * up e / down e)) (let g = lt-of-not-le k in omega arith) (floor-down m e z (let q = quot-lt in omega arith))
+    sum-size : HasValue (neg S) true N 1
+    sum-size = neg-value S N (sum-value m e below)
+
+    small : c ≤ 2 ^ 24
+    small = let q = quot-lt in let l = near-le (m * up e) (down e) (down-pos e) in omega arith
+
+    at-zero : N ≡ 8388608 → HasValue t false 0 1
+    at-zero z =
+        subst (λ (y : Float). HasValue y false 0 1) (sym (t-is ∙ rise-round (neg S) two23 N 8388608 sum-size (refl, refl) (le-of-eq z) ∙ ap (λ (k : ℕ). round binary32 false k 1) none))
+        (round-whole binary32 false 0 (omega arith))
+      where
+        none : 8388608 - N ≡ 0
+        none = omega arith
+
+    at-negative : 8388608 < N → HasValue t true c 1
+    at-negative z = subst (λ (y : Float). HasValue y true c 1) (sym (t-is ∙ fall-round (neg S) two23 N 8388608 sum-size (refl, refl) z)) (round-whole binary32 true c small)
+
+    rest : c ≡ m * up e / down e → c * down e < m * up e → m * up e % down e ≡ 0 → ⊥
+    rest v f r = lt-irrefl (m * up e) (subst (λ (k : ℕ). k < m * up e) (ap (λ (k : ℕ). k * down e) v ∙ omega (arith, div-add-mod' (m * up e) (down e))) f)
+
+    near-least : 8388608 ≤ N
+    near-least = let g = near-ge (m * up e) (down e) (down-pos e) in omega arith
+
+    c-zero : 8388608 ≡ N → c ≡ 0
+    c-zero z = omega arith
+
+    -- one less than t, and t
+    less-is : (y : Float) → T (fits binary32 y) → HasValue y true (c + 1) 1 → c * down e < m * up e → y ≡ floorOf x
+    less-is y F v f =
+        let u = c-under (le-of-lt f) in
+        whole-unique binary32 y (floorOf x) true (suc (m * up e / down e)) F (floor-fits x held)
+        (subst (λ (k : ℕ). HasValue y true k 1) (add-one c ∙ ap suc u) v) (floor-down m e (rest u f) (let q = quot-lt in omega arith))
+
+    same-is : (y : Float) → T (fits binary32 y) → HasValue y true c 1 → m * up e ≤ c * down e → y ≡ floorOf x
+    same-is y F v f = elim (eq-or-lt-of-le f) [
+      | inl e' ↦ whole-unique binary32 y (floorOf x) true c F (floor-fits x held) v (rw (floor-whole m e true (rw (e', mul-mod-left c (down e)))) (refl, mul-one (m * up e) ∙ e'))
+      | inr l ↦
+          let u = c-over l in
+          whole-unique binary32 y (floorOf x) true (suc (m * up e / down e)) F (floor-fits x held) (subst (λ (k : ℕ). HasValue y true k 1) u v) (floor-down m e (over-rest l u) (let q = quot-lt in omega arith))
+    ]
+      where
+        over-rest : m * up e < c * down e → c ≡ suc (m * up e / down e) → m * up e % down e ≡ 0 → ⊥
+        over-rest l u r = never (m * up e / down e) (sym (exact r) ∙ u)
+          where
+            never : (q : ℕ) → q ≡ suc q → ⊥
+            never q h = omega arith
+
+    down-less : lt x t ≡ true → sub binary32 t one ≡ floorOf x
+    down-less l = elim (eq-or-lt-of-le (near-least)) [
+      | inl z ↦ less-is (sub binary32 t one) (sub-fits binary32 t one) (at-one z) (none z)
+      | inr g ↦
+          less-is (sub binary32 t one) (sub-fits binary32 t one) (rw (sub-negative t one c 1 (at-negative g) (refl, refl)) (round-whole binary32 true (c + 1) (let q = quot-lt in let l = near-le (m * up e) (down e) (down-pos e) in omega arith)))
+          (let h = ltb-true (c * down e) (m * up e * 1) (sym (lt-negative x t (m * up e) (down e) c 1 (down-pos e) (lit< tt) (refl, refl) (at-negative g)) ∙ l) in omega arith)
+    ]
+      where
+        at-one : 8388608 ≡ N → HasValue (sub binary32 t one) true (c + 1) 1
+        at-one z = rw (c-zero z, sub-below t one 0 1 (at-zero (sym z)) (refl, refl) (lit< tt)) (round-whole binary32 true 1 (omega arith))
+
+        none : 8388608 ≡ N → c * down e < m * up e
+        none z = rw (c-zero z, zero-mul) some
+
+    down-same : lt x t ≡ false → t ≡ floorOf x
+    down-same l = elim (eq-or-lt-of-le (near-least)) [
+      | inl z ↦ apart (sym (lt-across m e t 0 1 some (at-zero (sym z))) ∙ l)
+      | inr g ↦
+          same-is t (sub-fits binary32 (add binary32 x (neg two23)) (neg two23)) (at-negative g)
+          (let h = ltb-false (c * down e) (m * up e * 1) (sym (lt-negative x t (m * up e) (down e) c 1 (down-pos e) (lit< tt) (refl, refl) (at-negative g)) ∙ l) in omega arith)
+    ]
+
+    down-whole : eq t x ≡ true → x ≡ floorOf x
+    down-whole h = elim (eq-or-lt-of-le (near-least)) [
+      | inl z ↦ multiple true m e 0 (same-size t false true m 0 e (at-zero (sym z)) h)
+      | inr g ↦ multiple true m e c (same-size t true true m c e (at-negative g) h)
+    ]
 
 -- ---- x from 2 ^ 23 on is whole
 pow-ge : (k : ℕ) → 2 ≤ 2 ^ suc k
@@ -235,67 +238,81 @@ whole-big : (s : Bool) (m : ℕ) (e : ℤ) → T (fits binary32 (fin s m e)) →
 whole-big s m (pos k) h g = omega arith
 whole-big s m (negsuc k) h g = absurd (no-fraction s m k h (omega arith))
 
--- ---- the program's seven ways, at any x
-abbrev zer : Float
-zer = fin false 0 (pos 0)
+large : (s : Bool) (m : ℕ) (e : ℤ) → T (fits binary32 (fin s m e)) → 8388608 * down e ≤ m * up e → fin s m e ≡ floorOf (fin s m e)
+large s m e h g = sym (floor-whole m e s (whole-big s m e h g))
 
--- what is above 0 and below 2 ^ 23, and what is below 0 and above -2 ^ 23
-positive : (P : Float → Type 0) → ((m : ℕ) (e : ℤ) → P (fin false m e)) → (x : Float) → lt zer x ≡ true → lt x two23 ≡ true → P x
-unfolding lt
-positive P f nan p q = apart (sym p)
-positive P f (inf false) p q = apart (sym q)
-positive P f (inf true) p q = apart (sym p)
-positive P f (fin true m e) p q = apart (sym p)
-positive P f (fin false m e) p q = f m e
-
-negative : (P : Float → Type 0) → ((m : ℕ) (e : ℤ) → P (fin true m e)) → (x : Float) → lt x zer ≡ true → lt (neg x) two23 ≡ true → P x
-unfolding lt neg
-negative P f nan p q = apart (sym p)
-negative P f (inf false) p q = apart (sym p)
-negative P f (inf true) p q = apart (sym q)
-negative P f (fin true m e) p q = f m e
-negative P f (fin false m e) p q = absurd (let h = ltb-true (m * up e * 1) (0 * down e) p in omega arith)
-
-pub case-1 : (x : Float) → T (fits binary32 x) → lt zer x ≡ true → lt x two23 ≡ true → lt x (shifted x) ≡ true → sub binary32 (shifted x) one ≡ floorOf x
-case-1 x h p q = positive (λ (x : Float). T (fits binary32 x) → lt x two23 ≡ true → lt x (shifted x) ≡ true → sub binary32 (shifted x) one ≡ floorOf x) way-1 x p q h q
-
-pub case-2 : (x : Float) → T (fits binary32 x) → lt zer x ≡ true → lt x two23 ≡ true → lt x (shifted x) ≡ false → shifted x ≡ floorOf x
-case-2 x h p q = positive (λ (x : Float). T (fits binary32 x) → lt x two23 ≡ true → lt x (shifted x) ≡ false → shifted x ≡ floorOf x) way-2 x p q h q
-
-large : (s : Bool) (m : ℕ) (e : ℤ) → T (fits binary32 (fin s m e)) → lt (fin false m e) two23 ≡ false → fin s m e ≡ floorOf (fin s m e)
-large s m e h q =
-    let g = ltb-false (m * up e * 1) (8388608 * down e) (sym (lt-values (fin false m e) two23 (m * up e) (down e) 8388608 1 (down-pos e) (lit< tt) (refl, refl) (refl, refl)) ∙ q) in
-    sym (floor-whole m e s (whole-big s m e h (omega arith)))
-
-pub case-3 : (x : Float) → T (fits binary32 x) → lt zer x ≡ true → lt x two23 ≡ false → x ≡ floorOf x
+pub from-up : (x : Float) → T (fits binary32 x) → lt x two23 ≡ false → x ≡ floorOf x
 unfolding lt floorOf
-case-3 nan h p q = refl
-case-3 (inf s) h p q = refl
-case-3 (fin true m e) h p q = apart (sym p)
-case-3 (fin false m e) h p q = large false m e h q
+from-up nan h p = refl
+from-up (inf s) h p = refl
+from-up (fin false m e) h p = large false m e h (let g = ltb-false (m * up e * 1) (8388608 * down e) p in omega arith)
+from-up (fin true m e) h p = apart (sym (lt-ltb 0 (m * up e * 1 + 8388608 * down e) (let d = down-pos e in omega arith)) ∙ p)
 
-pub case-4 : (x : Float) → T (fits binary32 x) → lt x zer ≡ true → lt (neg x) two23 ≡ true → lt (shifted (neg x)) (neg x) ≡ true → neg (add binary32 (shifted (neg x)) one) ≡ floorOf x
-unfolding neg
-case-4 x h p q = negative (λ (x : Float). T (fits binary32 (neg x)) → lt (neg x) two23 ≡ true → lt (shifted (neg x)) (neg x) ≡ true → neg (add binary32 (shifted (neg x)) one) ≡ floorOf x) way-4 x p q (neg-fits binary32 x h) q
-
-pub case-5 : (x : Float) → T (fits binary32 x) → lt x zer ≡ true → lt (neg x) two23 ≡ true → lt (shifted (neg x)) (neg x) ≡ false → neg (shifted (neg x)) ≡ floorOf x
-unfolding neg
-case-5 x h p q = negative (λ (x : Float). T (fits binary32 (neg x)) → lt (neg x) two23 ≡ true → lt (shifted (neg x)) (neg x) ≡ false → neg (shifted (neg x)) ≡ floorOf x) way-5 x p q (neg-fits binary32 x h) q
-
-pub case-6 : (x : Float) → T (fits binary32 x) → lt x zer ≡ true → lt (neg x) two23 ≡ false → x ≡ floorOf x
+pub from-down : (x : Float) → T (fits binary32 x) → lt x two23 ≡ true → lt (neg two23) x ≡ false → x ≡ floorOf x
 unfolding lt floorOf neg
-case-6 nan h p q = refl
-case-6 (inf s) h p q = refl
-case-6 (fin true m e) h p q = large true m e h q
-case-6 (fin false m e) h p q = absurd (let h = ltb-true (m * up e * 1) (0 * down e) p in omega arith)
+from-down nan h p q = refl
+from-down (inf s) h p q = refl
+from-down (fin true m e) h p q = large true m e h (let g = ltb-false (m * up e * 1) (8388608 * down e) q in omega arith)
+from-down (fin false m e) h p q = apart (sym (lt-ltb 0 (8388608 * down e + m * up e * 1) (let d = down-pos e in omega arith)) ∙ q)
 
--- neither above 0 nor below it: a zero or a NaN
-no-size : (s : Bool) (m : ℕ) (e : ℤ) → m * up e ≡ 0 → fin s m e ≡ floorOf (fin s m e)
-no-size s m e z = sym (floor-whole m e s (rw (z, zero-mod)))
+-- ---- below 2 ^ 23 in size
+plus-is : (m : ℕ) (e : ℤ) → near-whole (fin false m e) ≡ shifted (fin false m e)
+plus-is m e = ap (λ (b : Bool). sub binary32 (add binary32 (fin false m e) (cond b (neg two23) two23)) (cond b (neg two23) two23)) not-below
+  where
+    not-below : lt (fin false m e) zer ≡ false
+    not-below = unfold lt in le-ltb (m * up e * 1) (0 * down e) (omega arith)
 
-pub case-7 : (x : Float) → lt zer x ≡ false → lt x zer ≡ false → x ≡ floorOf x
-unfolding lt floorOf
-case-7 nan p q = refl
-case-7 (inf s) p q = refl
-case-7 (fin false m e) p q = no-size false m e (let h = ltb-false (0 * down e) (m * up e * 1) p in omega arith)
-case-7 (fin true m e) p q = no-size true m e (let h = ltb-false 0 (m * up e * 1 + 0 * down e) q in omega arith)
+minus-is : (m : ℕ) (e : ℤ) → 0 < m * up e → near-whole (fin true m e) ≡ sub binary32 (add binary32 (fin true m e) (neg two23)) (neg two23)
+minus-is m e some =
+    ap (λ (b : Bool). sub binary32 (add binary32 (fin true m e) (cond b (neg two23) two23)) (cond b (neg two23) two23)) (lt-across m e zer 0 1 some (refl, refl))
+
+-- -0 is its own nearest whole number
+minus-zero : (e : ℤ) → T (fits binary32 (fin true 0 e)) → eq (near-whole (fin true 0 e)) (fin true 0 e) ≡ true
+unfolding fits
+minus-zero (pos zero) h = unfold lt eq add sub sum neg round size units odd in refl
+minus-zero (pos (suc k)) h = absurd (let p = pow-ge k in let z = eqb→eq (2 ^ suc k * 1) 1 h in omega arith)
+minus-zero (negsuc k) h = absurd (let p = pow-ge k in let z = eqb→eq (1 * 2 ^ suc k) 1 h in omega arith)
+
+under : (m : ℕ) (e : ℤ) → lt (fin false m e) two23 ≡ true → m * up e < 8388608 * down e
+unfolding lt
+under m e p = let h = ltb-true (m * up e * 1) (8388608 * down e) p in omega arith
+
+over-minus : (m : ℕ) (e : ℤ) → lt (neg two23) (fin true m e) ≡ true → m * up e < 8388608 * down e
+unfolding lt neg
+over-minus m e p = let h = ltb-true (m * up e * 1) (8388608 * down e) p in omega arith
+
+-- the float inside, by its sign
+inner : (P : Float → Type 0) → ((m : ℕ) (e : ℤ) → m * up e < 8388608 * down e → P (fin false m e)) → ((m : ℕ) (e : ℤ) → m * up e < 8388608 * down e → P (fin true m e)) → (x : Float)
+    → lt x two23 ≡ true → lt (neg two23) x ≡ true → P x
+inner P f g nan p q = apart (sym (unfold lt in p))
+inner P f g (inf false) p q = apart (sym (unfold lt in p))
+inner P f g (inf true) p q = apart (sym (unfold lt neg in q))
+inner P f g (fin false m e) p q = f m e (under m e p)
+inner P f g (fin true m e) p q = g m e (over-minus m e q)
+
+pub stays : (x : Float) → T (fits binary32 x) → lt x two23 ≡ true → lt (neg two23) x ≡ true → eq (near-whole x) x ≡ true → x ≡ floorOf x
+stays x h p q = inner (λ (x : Float). T (fits binary32 x) → eq (near-whole x) x ≡ true → x ≡ floorOf x) plus minus x p q h
+  where
+    plus : (m : ℕ) (e : ℤ) → m * up e < 8388608 * down e → T (fits binary32 (fin false m e)) → eq (near-whole (fin false m e)) (fin false m e) ≡ true → fin false m e ≡ floorOf (fin false m e)
+    plus m e b h t = multiple false m e (c m e b) (same-size (near-whole (fin false m e)) false false m (c m e b) e (rw (plus-is m e) (value m e b)) t)
+
+    minus : (m : ℕ) (e : ℤ) → m * up e < 8388608 * down e → T (fits binary32 (fin true m e)) → eq (near-whole (fin true m e)) (fin true m e) ≡ true → fin true m e ≡ floorOf (fin true m e)
+    minus zero e b h t = multiple true 0 e 0 (omega arith)
+    minus (suc m) e b h t = let P = mul-pos (zero-lt-suc m) (up-pos e) in down-whole (suc m) e b P h (rw (minus-is (suc m) e P) at t)
+
+pub moves : (x : Float) → T (fits binary32 x) → lt x two23 ≡ true → lt (neg two23) x ≡ true → eq (near-whole x) x ≡ false → cond (lt x (near-whole x)) (sub binary32 (near-whole x) one) (near-whole x) ≡ floorOf x
+moves x h p q = inner (λ (x : Float). T (fits binary32 x) → eq (near-whole x) x ≡ false → cond (lt x (near-whole x)) (sub binary32 (near-whole x) one) (near-whole x) ≡ floorOf x) plus minus x p q h
+  where
+    by-test : (x y : Float) → (lt x y ≡ true → sub binary32 y one ≡ floorOf x) → (lt x y ≡ false → y ≡ floorOf x) → cond (lt x y) (sub binary32 y one) y ≡ floorOf x
+    by-test x y f g = go (lt x y) refl
+      where
+        go : (b : Bool) → lt x y ≡ b → cond b (sub binary32 y one) y ≡ floorOf x
+        go true e = f e
+        go false e = g e
+
+    plus : (m : ℕ) (e : ℤ) → m * up e < 8388608 * down e → T (fits binary32 (fin false m e)) → eq (near-whole (fin false m e)) (fin false m e) ≡ false → cond (lt (fin false m e) (near-whole (fin false m e))) (sub binary32 (near-whole (fin false m e)) one) (near-whole (fin false m e)) ≡ floorOf (fin false m e)
+    plus m e b h t = rw (plus-is m e) (by-test (fin false m e) (shifted (fin false m e)) (up-less m e b h) (up-same m e b h))
+
+    minus : (m : ℕ) (e : ℤ) → m * up e < 8388608 * down e → T (fits binary32 (fin true m e)) → eq (near-whole (fin true m e)) (fin true m e) ≡ false → cond (lt (fin true m e) (near-whole (fin true m e))) (sub binary32 (near-whole (fin true m e)) one) (near-whole (fin true m e)) ≡ floorOf (fin true m e)
+    minus zero e b h t = apart (sym (minus-zero e h) ∙ t)
+    minus (suc m) e b h t = let P = mul-pos (zero-lt-suc m) (up-pos e) in rw (minus-is (suc m) e P) (by-test (fin true (suc m) e) _ (down-less (suc m) e b P h) (down-same (suc m) e b P h))

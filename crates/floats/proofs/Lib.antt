@@ -1,16 +1,21 @@
-pub mod Patterns
+-- For other crates: `pub mod`.
 pub mod Nan
-pub mod Signs
-pub mod Exact
+pub mod Read
+pub mod Patterns
 pub mod Values
-pub mod Floors
-pub mod Casts
-pub mod FloorRoot
-pub mod RootBySquares
-pub mod RootCases
-pub mod Below
 pub mod Entries
-pub mod Shifts
-pub mod Mixing
 pub mod PowerCases
 pub mod PowerReview
+pub mod RootOnly
+pub mod RootSquares
+mod Below
+mod Casts
+mod FloorRoot
+mod Floors
+mod Halves
+mod Mixing
+mod NearWhole
+mod RootCases
+mod RootPatterns
+mod Shifts
+mod Signs

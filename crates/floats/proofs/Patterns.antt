@@ -1,17 +1,15 @@
--- f32 bit patterns: a finite one is digits * 2 ^ place in units of 2 ^ -149 (`finite-is`, `value`), and the pattern k * 2 ^ 23 + q stands for q * 2 ^ k units,
--- where q has 24 digits or is 2 ^ 24 (`made`). Assumes nothing.
+-- f32 bit patterns: a finite one is significand * 2 ^ exponent in units of 2 ^ -149 (`value`), one whose field is all ones an infinity or a NaN (`at-ones`),
+-- and the pattern k * 2 ^ 23 + q stands for q * 2 ^ k units, where q has 24 digits (`made`). Assumes nothing.
 use mathlib.Core.Path.{_≡_, refl, sym, ap, _∙_, subst}
-use mathlib.Core.Logic.{_⊎_, inl, inr}
-use mathlib.Core.Bool.{Bool, true, false, not, cond, true≢false}
+use mathlib.Core.Bool.{Bool, true, false, cond, true≢false}
 use Prim.Native.Nat.{ℕ, zero, suc, _+_, _-_, _*_, _/_, _%_, _^_, _≤_, _<_}
-use native.Mathlib.Nat.{mul-div-cancel, eq-or-lt-of-le, le-of-suc-le-suc}
+use native.Mathlib.Nat.{le-of-suc-le-suc}
 use native.Mathlib.Omega.{arith}
-use lib.Dec.{T, leb, eqb, leb→le, eqb→eq, not-T, lt→ltb, ltb}
-use lib.IntN.{ℤ, pos}
-use lib.Ieee.{Float, nan, inf, fin, binary32, up, down, minus, odd, ofFields, ofBits, nanBits}
-use lib.Ieee.Bits.{is-false, cond-no, nanBits-above}
+use lib.Dec.{T, leb, eqb, eqb→eq}
+use lib.Ieee.{Float, nan, inf, binary32, binary64, odd, ofFields, ofBits, isNan, nanBits}
+use lib.Ieee.Bits.{nanBits-above}
 use lib.Ieee.Exact.{HasValue, odd-sign}
-use borrow.Author.Tests.{lt-leb, le-leb, ne-eqb, le-ltb}
+use borrow.Author.Tests.{lt-leb, ne-eqb, le-ltb}
 use Rattle.floats.specs.Pattern.{fieldOf, significandOf, exponentOf}
 
 pub ofBits-is : (b : ℕ) → ofBits binary32 b ≡ ofFields binary32 (leb 2147483648 b) (fieldOf b) (b % 8388608)
@@ -48,16 +46,16 @@ value b h =
     subst (λ (x : Float). HasValue x (leb 2147483648 b) (significandOf b * 2 ^ exponentOf b) (2 ^ 149)) (sym (finite-is b h))
     (odd-sign 24 (leb 2147483648 b) (significandOf b) (exponentOf b) 149)
 
--- the digits of a pattern
-pub digits-lt : (b : ℕ) → significandOf b < 16777216
-digits-lt b = go (eqb (fieldOf b) 0)
+-- the significand
+pub significand-lt : (b : ℕ) → significandOf b < 16777216
+significand-lt b = go (eqb (fieldOf b) 0)
   where
     go : (t : Bool) → cond t (b % 8388608) (8388608 + b % 8388608) < 16777216
     go true = omega arith
     go false = omega arith
 
-pub digits-pos : (b : ℕ) → 0 < b % 2147483648 → 0 < significandOf b
-digits-pos b h = go (eqb (fieldOf b) 0) (λ (t : T (eqb (fieldOf b) 0)). eqb→eq (fieldOf b) 0 t)
+pub significand-pos : (b : ℕ) → 0 < b % 2147483648 → 0 < significandOf b
+significand-pos b h = go (eqb (fieldOf b) 0) (λ (t : T (eqb (fieldOf b) 0)). eqb→eq (fieldOf b) 0 t)
   where
     go : (t : Bool) → (T t → fieldOf b ≡ 0) → 0 < cond t (b % 8388608) (8388608 + b % 8388608)
     go true x = low b h (x tt)
@@ -66,10 +64,29 @@ digits-pos b h = go (eqb (fieldOf b) 0) (λ (t : T (eqb (fieldOf b) 0)). eqb→e
         low b h e = omega arith
     go false x = omega arith
 
--- ---- patterns that are put together
-low-pattern : (k t : ℕ) → k < 254 → t < 8388608 → (suc k) * 8388608 + t < 2139095040
-low-pattern k t h g = omega arith
+pub significand-ge : (b : ℕ) → 0 < exponentOf b → 8388608 ≤ significandOf b
+significand-ge b h = go (eqb (fieldOf b) 0) (λ (t : T (eqb (fieldOf b) 0)). eqb→eq (fieldOf b) 0 t)
+  where
+    go : (t : Bool) → (T t → fieldOf b ≡ 0) → 8388608 ≤ cond t (b % 8388608) (8388608 + b % 8388608)
+    go true x = absurd (no (fieldOf b) h (x tt))
+      where
+        no : (f : ℕ) → 0 < f - 1 → f ≡ 0 → ⊥
+        no f a e = omega arith
+    go false x = omega arith
 
+-- where the pattern's field is all ones, it is read by its sign and its digits
+pub at-ones : (b : ℕ) (s : Bool) → leb 2147483648 b ≡ s → fieldOf b ≡ 255 → ofBits binary32 b ≡ ofFields binary32 s 255 (b % 8388608)
+at-ones b s p f = ofBits-is b ∙ ap (λ (t : Bool). ofFields binary32 t (fieldOf b) (b % 8388608)) p ∙ ap (λ (x : ℕ). ofFields binary32 s x (b % 8388608)) f
+
+pub infinite : (b : ℕ) → fieldOf b ≡ 255 → isNan (ofBits binary32 b) ≡ false → ofBits binary32 b ≡ inf (leb 2147483648 b)
+unfolding ofFields isNan
+infinite b f n = let e = at-ones b (leb 2147483648 b) refl f in e ∙ go (eqb (b % 8388608) 0) (subst (λ (x : Float). isNan x ≡ false) e n)
+  where
+    go : (t : Bool) → isNan (cond t (inf (leb 2147483648 b)) nan) ≡ false → cond t (inf (leb 2147483648 b)) nan ≡ inf (leb 2147483648 b)
+    go true n = refl
+    go false n = absurd (true≢false n)
+
+-- ---- patterns that are put together
 at-pattern : (k t : ℕ) → k < 254 → t < 8388608 → ofBits binary32 (suc k * 8388608 + t) ≡ odd 24 false (8388608 + t) k 149
 at-pattern k t h g =
     ofBits-is (suc k * 8388608 + t)
@@ -103,39 +120,16 @@ made k q h lo hi =
     whole : (q : ℕ) → 8388608 ≤ q → 8388608 + (q - 8388608) ≡ q
     whole q lo = omega arith
 
--- q = 2 ^ 24, which carries into the field
-made-carried : (k : ℕ) → k < 253 → ofBits binary32 (k * 8388608 + 16777216) ≡ odd 24 false 16777216 k 149
-unfolding odd
-made-carried k h =
-    ap (λ (x : ℕ). ofBits binary32 x) (sums k)
-    ∙ at-pattern (suc k) 0 (next k h) (small)
-    ∙ ap (λ (x : ℕ). fin false 1 (minus x 149)) (moved k)
-  where
-    sums : (k : ℕ) → k * 8388608 + 16777216 ≡ suc (suc k) * 8388608 + 0
-    sums k = omega arith
-
-    next : (k : ℕ) → k < 253 → suc k < 254
-    next k h = omega arith
-
-    small : 0 < 8388608
-    small = omega arith
-
-    moved : (k : ℕ) → suc k + 23 ≡ k + 24
-    moved k = omega arith
-
-pub made-up-to : (k q : ℕ) → k < 253 → 8388608 ≤ q → q ≤ 16777216 → ofBits binary32 (k * 8388608 + q) ≡ odd 24 false q k 149
-made-up-to k q h lo hi =
-    elim (eq-or-lt-of-le hi) [
-      | inl e ↦ subst (λ (x : ℕ). ofBits binary32 (k * 8388608 + x) ≡ odd 24 false x k 149) (sym e) (made-carried k h)
-      | inr l ↦ made k q (wider k h) lo l
-    ]
-  where
-    wider : (k : ℕ) → k < 253 → k < 254
-    wider k h = omega arith
-
--- what a cast of such a pattern asks
-pub no-nan : (b : ℕ) → b < 2139095040 → nanBits binary32 b ≡ false
-no-nan b h = nanBits-above binary32 b ∙ le-ltb 2139095040 (b % 2147483648) (under b h)
+-- what `from_bits` asks
+pub bits-no-nan : (b : ℕ) → b < 2139095040 → nanBits binary32 b ≡ false
+bits-no-nan b h = nanBits-above binary32 b ∙ le-ltb 2139095040 (b % 2147483648) (under b h)
   where
     under : (b : ℕ) → b < 2139095040 → b % 2147483648 ≤ 2139095040
+    under b h = omega arith
+
+-- the same of an f64's pattern
+pub wide-no-nan : (b : ℕ) → b < 9218868437227405312 → nanBits binary64 b ≡ false
+wide-no-nan b h = nanBits-above binary64 b ∙ le-ltb 9218868437227405312 (b % 9223372036854775808) (under b h)
+  where
+    under : (b : ℕ) → b < 9218868437227405312 → b % 9223372036854775808 ≤ 9218868437227405312
     under b h = omega arith

@@ -1,22 +1,23 @@
 -- `exp2Of`, case by case, and at the pattern of an f32 that is neither a NaN nor out of range. Assumes nothing.
 use mathlib.Core.Path.{_≡_, refl, sym, ap, _∙_, subst}
 use mathlib.Core.Logic.{inl, inr}
-use mathlib.Core.Bool.{Bool, true, false, not, cond, _&&_, _||_, true≢false}
-use Prim.Native.Nat.{ℕ, zero, suc, _+_, _-_, _*_, _/_, _%_, _^_, _≤_, _<_}
-use native.Mathlib.Nat.{le-trans, le-of-eq, lt-of-lt-of-le, lt-of-le-of-lt, eq-or-lt-of-le, le-of-mul-le-mul-right, lt-of-mul-lt-mul-right, mul-one, mul-assoc, mul-comm, mul-right-comm, mul-le-mul-right, mul-lt-mul-of-pos-right, div-lt-iff-lt-mul, le-div-iff-mul-le}
+use mathlib.Core.Bool.{Bool, true, false, cond, _&&_, _||_, true≢false}
+use Prim.Native.Nat.{ℕ, _+_, _-_, _*_, _/_, _%_, _^_, _≤_, _<_}
+use native.Mathlib.Nat.{le-trans, le-of-eq, lt-of-lt-of-le, lt-of-le-of-lt, eq-or-lt-of-le, le-of-mul-le-mul-right, lt-of-mul-lt-mul-right, mul-one, mul-assoc, mul-right-comm, mul-le-mul-right, mul-lt-mul-of-pos-right, div-lt-iff-lt-mul, le-div-iff-mul-le}
 use native.Mathlib.Omega.{arith}
-use lib.Dec.{T, leb, ltb, eqb}
+use lib.Dec.{leb, ltb, eqb}
 use lib.Arith.{lt-of-le-ne}
 use lib.Pow.{pow-pos}
-use lib.IntN.{ℤ, pos}
+use lib.IntN.{pos}
 use lib.Ieee.{Float, nan, inf, fin, binary32, up, down, ofFields, ofBits, isNan, le, lt}
 use lib.Ieee.Fits.{down-pos}
 use lib.Ieee.Exact.{HasValue}
 use lib.Ieee.Nearest.{div-same}
 use lib.Ieee.Scale.{finite}
-use borrow.Author.Tests.{lt-leb, le-leb, ltb-false, eqb-false}
+use borrow.Author.Tests.{ltb-false, eqb-false}
 use Rattle.floats.specs.Pattern.{fieldOf, significandOf, exponentOf}
-use Rattle.floats.specs.Exp2.{exp2Of, powAt, scaled, stepsOf, one28, minus126}
+use Rattle.floats.specs.Exp2.{exp2Of, powAt, scaled, one28, minus126}
+use Rattle.floats.specs.Promises.{stepsOf}
 use Rattle.floats.proofs.Patterns.{ofBits-is, value}
 use Rattle.floats.proofs.Shifts.{sub-mul}
 

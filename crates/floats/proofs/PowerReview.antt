@@ -1,11 +1,12 @@
--- What `scaled` says, in the document's words: with N the floor of x * 65,536, it is N + 128 * 65,536. For a negative x, N is minus the ceiling of its size times 65,536. Assumes nothing.
+-- What `scaled` says, in the document's words: with N the floor of x * 65,536, it is n = N + 128 * 65,536 (`plus-floor`; for a negative x, N is minus the ceiling of
+-- its size times 65,536, `minus-floor`), and i, j and r are read off n (`letters`). Assumes nothing.
 use mathlib.Core.Path.{_≡_, sym, ap, _∙_}
 use mathlib.Core.Bool.{true, false}
-use Prim.Native.Nat.{ℕ, suc, _+_, _-_, _*_, _/_, _%_, _≤_, _<_}
-use native.Mathlib.Nat.{le-trans, le-of-eq, le-antisymm, le-of-suc-le-suc, le-div-iff-mul-le, div-lt-iff-lt-mul, lt-of-lt-of-le, add-mul, one-mul, mul-add-div-right}
+use Prim.Native.Nat.{ℕ, suc, _+_, _-_, _*_, _/_, _≤_, _<_}
+use native.Mathlib.Nat.{le-of-eq, le-antisymm, le-of-suc-le-suc, le-div-iff-mul-le, div-lt-iff-lt-mul, lt-of-lt-of-le, add-mul, one-mul, mul-add-div-right}
 use native.Mathlib.Omega.{arith}
 use lib.IntN.{ℤ}
-use lib.Ieee.{Float, fin, up, down}
+use lib.Ieee.{fin, up, down}
 use lib.Ieee.Fits.{down-pos}
 use Rattle.floats.specs.Exp2.{scaled, iOf+128, jOf, rOf}
 

@@ -1,20 +1,20 @@
 -- `sqrtOf` at a value and at a bit pattern, case by case. Assumes nothing.
 use mathlib.Core.Path.{_≡_, refl, sym, ap, _∙_, subst}
 use mathlib.Core.Logic.{inl, inr}
-use mathlib.Core.Bool.{Bool, true, false, not, cond, true≢false}
+use mathlib.Core.Bool.{Bool, true, false, cond, true≢false}
 use Prim.Native.Nat.{ℕ, zero, suc, _+_, _-_, _*_, _/_, _%_, _^_, _≤_, _<_}
-use native.Mathlib.Nat.{mul-div-cancel, mul-pos, zero-mul, lt-irrefl, eq-or-lt-of-le, le-of-suc-le-suc}
+use native.Mathlib.Nat.{mul-div-cancel, mul-pos, zero-mul, eq-or-lt-of-le}
 use native.Mathlib.Omega.{arith}
-use lib.Dec.{leb, eqb}
+use lib.Dec.{eqb}
 use lib.Pow.{pow-pos}
 use lib.IntN.{ℤ}
 use lib.Ieee.{Float, nan, inf, fin, binary32, up, down, ofFields, ofBits}
 use lib.Ieee.Fits.{down-pos}
 use lib.Ieee.Exact.{HasValue}
-use borrow.Author.Tests.{lt-leb, le-leb}
+use borrow.Author.Tests.{lt-leb, le-leb, eq-eqb, ne-eqb}
 use Rattle.floats.specs.Pattern.{fieldOf, significandOf, exponentOf}
 use Rattle.floats.specs.Sqrt.{sqrtOf, rootUnits}
-use Rattle.floats.proofs.Patterns.{ofBits-is, value, digits-pos}
+use Rattle.floats.proofs.Patterns.{value, significand-pos, at-ones}
 
 -- ---- by the value: n / 2 ^ 149, with n above 0
 none : (n : ℕ) (e : ℤ) (a b : ℕ) → 0 * a * b ≡ n * down e → 0 < n → ⊥
@@ -69,10 +69,6 @@ ones-minus t = go (eqb t 0)
     go true = refl
     go false = refl
 
--- where the pattern's field is all ones, it is read by its sign and its digits
-at-ones : (b : ℕ) (s : Bool) → leb 2147483648 b ≡ s → fieldOf b ≡ 255 → ofBits binary32 b ≡ ofFields binary32 s 255 (b % 8388608)
-at-ones b s p f = ofBits-is b ∙ ap (λ (t : Bool). ofFields binary32 t (fieldOf b) (b % 8388608)) p ∙ ap (λ (x : ℕ). ofFields binary32 s x (b % 8388608)) f
-
 pub of-infinity : (b : ℕ) → 2139095040 ≤ b → b < 2147483648 → ofBits binary32 b ≡ sqrtOf (ofBits binary32 b)
 of-infinity b lo hi = subst (λ (x : Float). x ≡ sqrtOf x) (sym (at-ones b false (lt-leb 2147483648 b hi) (field b lo hi))) (ones-plus (b % 8388608))
   where
@@ -84,7 +80,7 @@ of-sign b lo hi = elim (eq-or-lt-of-le (field b)) [
   | inl e ↦ ap sqrtOf (at-ones b true (le-leb 2147483648 b (less b lo)) e) ∙ ones-minus (b % 8388608)
   | inr l ↦
       of-negative (ofBits binary32 b) (significandOf b * 2 ^ exponentOf b) (subst (λ (s : Bool). HasValue (ofBits binary32 b) s (significandOf b * 2 ^ exponentOf b) (2 ^ 149)) (le-leb 2147483648 b (less b lo)) (value b l))
-      (mul-pos (digits-pos b (some b lo hi)) (pow-pos (exponentOf b)))
+      (mul-pos (significand-pos b (some b lo hi)) (pow-pos (exponentOf b)))
 ]
   where
     field : (b : ℕ) → b % 2147483648 / 8388608 ≤ 255
@@ -96,11 +92,11 @@ of-sign b lo hi = elim (eq-or-lt-of-le (field b)) [
     some : (b : ℕ) → 2147483648 < b → b < 4294967296 → 0 < b % 2147483648
     some b lo hi = omega arith
 
-pub of-plus : (b : ℕ) → 0 < b → b < 2139095040 → sqrtOf (ofBits binary32 b) ≡ rootUnits (significandOf b * 2 ^ exponentOf b)
+of-plus : (b : ℕ) → 0 < b → b < 2139095040 → sqrtOf (ofBits binary32 b) ≡ rootUnits (significandOf b * 2 ^ exponentOf b)
 of-plus b lo hi =
     of-positive (ofBits binary32 b) (significandOf b * 2 ^ exponentOf b)
     (subst (λ (s : Bool). HasValue (ofBits binary32 b) s (significandOf b * 2 ^ exponentOf b) (2 ^ 149)) (lt-leb 2147483648 b (under b hi)) (value b (field b hi)))
-    (mul-pos (digits-pos b (some b lo hi)) (pow-pos (exponentOf b)))
+    (mul-pos (significand-pos b (some b lo hi)) (pow-pos (exponentOf b)))
   where
     under : (b : ℕ) → b < 2139095040 → b < 2147483648
     under b h = omega arith
@@ -110,3 +106,21 @@ of-plus b lo hi =
 
     some : (b : ℕ) → 0 < b → b < 2139095040 → 0 < b % 2147483648
     some b lo hi = omega arith
+
+pub of-subnormal : (b : ℕ) → 0 < b → b < 8388608 → sqrtOf (ofBits binary32 b) ≡ rootUnits b
+of-subnormal b lo hi = of-plus b lo (omega arith) ∙ ap rootUnits (rw (eq-eqb (fieldOf b) 0 (omega arith)) (size b hi))
+  where
+    size : (b : ℕ) → b < 8388608 → b % 8388608 * 2 ^ exponentOf b ≡ b
+    size b h = rw (place b h) (omega arith)
+      where
+        place : (b : ℕ) → b < 8388608 → exponentOf b ≡ 0
+        place b h = omega arith
+
+pub of-normal : (b : ℕ) → 8388608 ≤ b → b < 2139095040 → sqrtOf (ofBits binary32 b) ≡ rootUnits ((8388608 + b % 8388608) * 2 ^ (b / 8388608 - 1))
+of-normal b lo hi = of-plus b (omega arith) hi ∙ ap rootUnits (rw (ne-eqb (fieldOf b) 0 (some b lo hi), place b hi))
+  where
+    some : (b : ℕ) → 8388608 ≤ b → b < 2139095040 → fieldOf b ≡ 0 → ⊥
+    some b lo hi e = omega arith
+
+    place : (b : ℕ) → b < 2139095040 → exponentOf b ≡ b / 8388608 - 1
+    place b hi = omega arith

@@ -1,33 +1,22 @@
 -- The digits of an f32 shifted down to a whole number of 65,536ths: the program's shift by at most 25 gives the floor that `stepsOf` says. Assumes nothing.
-use mathlib.Core.Path.{_≡_, refl, sym, ap, _∙_, subst}
-use mathlib.Core.Logic.{_⊎_, inl, inr}
-use mathlib.Core.Bool.{Bool, true, false, cond}
-use Prim.Native.Nat.{ℕ, zero, suc, _+_, _-_, _*_, _/_, _%_, _^_, _≤_, _<_, min}
-use native.Mathlib.Nat.{le-trans, le-of-eq, lt-of-lt-of-le, lt-of-le-of-lt, lt-of-not-le, not-le-of-lt, le-of-suc-le-suc, eq-or-lt-of-le, mul-assoc, mul-comm, mul-left-comm, mul-le-mul, mul-le-mul-left, mul-le-mul-right, mul-pos, mul-sub, le-of-mul-le-mul-right, eq-zero-or-pos, mul-div-cancel, zero-mul, sub-zero, add-zero}
+use mathlib.Core.Path.{_≡_, sym, ap, _∙_, subst}
+use mathlib.Core.Logic.{inl, inr}
+use Prim.Native.Nat.{ℕ, suc, _+_, _-_, _*_, _/_, _^_, _≤_, _<_, min}
+use native.Mathlib.Nat.{le-trans, le-of-eq, lt-of-lt-of-le, lt-of-not-le, not-le-of-lt, le-of-suc-le-suc, mul-assoc, mul-comm, mul-le-mul, mul-pos, mul-sub, le-of-mul-le-mul-right, eq-zero-or-pos, mul-div-cancel, zero-mul, sub-zero}
 use native.Mathlib.Decide.{decLe}
 use native.Mathlib.Omega.{arith}
-use lib.Dec.{T, eqb, eqb→eq}
 use lib.Arith.{digits-div}
 use lib.Pow.{pow-add, pow-pos, pow-mono, pow-lt, shl-lt}
 use lib.Ieee.Nearest.{div-same}
-use Rattle.floats.specs.Pattern.{fieldOf, significandOf, exponentOf}
+use Rattle.floats.specs.Pattern.{significandOf, exponentOf}
+use Rattle.floats.proofs.Patterns.{significand-ge}
 
 pub sub-mul : (a b k : ℕ) → (a - b) * k ≡ a * k - b * k
 sub-mul a b k = mul-comm (a - b) k ∙ mul-sub k a b ∙ ap (λ (x : ℕ). x - k * b) (mul-comm k a) ∙ ap (λ (x : ℕ). a * k - x) (mul-comm k b)
 
 -- ---- the place of an f32 that is 128 at most
-pub digits-ge : (b : ℕ) → 0 < exponentOf b → 8388608 ≤ significandOf b
-digits-ge b h = go (eqb (fieldOf b) 0) (λ (t : T (eqb (fieldOf b) 0)). eqb→eq (fieldOf b) 0 t)
-  where
-    go : (t : Bool) → (T t → fieldOf b ≡ 0) → 8388608 ≤ cond t (b % 8388608) (8388608 + b % 8388608)
-    go true x = absurd (no (fieldOf b) h (x tt))
-      where
-        no : (f : ℕ) → 0 < f - 1 → f ≡ 0 → ⊥
-        no f a e = omega arith
-    go false x = omega arith
-
-pub place-le : (b : ℕ) → significandOf b * 2 ^ exponentOf b ≤ 8388608 * 2 ^ 133 → exponentOf b ≤ 133
-place-le b h = le-of-suc-le-suc (lt-of-not-le (λ (g : 134 ≤ exponentOf b). not-le-of-lt (pow-lt {i = 156} {j = 157} (lt)) (le-trans (le-of-eq (pow-add 2 23 134)) (le-trans (mul-le-mul (digits-ge b (some (exponentOf b) g)) (pow-mono g)) h))))
+pub exponent-le : (b : ℕ) → significandOf b * 2 ^ exponentOf b ≤ 8388608 * 2 ^ 133 → exponentOf b ≤ 133
+exponent-le b h = le-of-suc-le-suc (lt-of-not-le (λ (g : 134 ≤ exponentOf b). not-le-of-lt (pow-lt {i = 156} {j = 157} (lt)) (le-trans (le-of-eq (pow-add 2 23 134)) (le-trans (mul-le-mul (significand-ge b (some (exponentOf b) g)) (pow-mono g)) h))))
   where
     lt : 156 < 157
     lt = omega arith

@@ -1,26 +1,18 @@
 -- The magnitude and the sign of an `f32`, read off its bit pattern. Assumes nothing.
-use mathlib.Core.Path.{_≡_, refl, sym, ap, _∙_, subst}
-use mathlib.Core.Bool.{Bool, true, false, cond, not}
+use mathlib.Core.Path.{_≡_, refl, sym, _∙_, subst}
+use mathlib.Core.Bool.{Bool, true, false, cond}
 use Prim.Native.Nat.{ℕ, zero, suc, _+_, _*_, _/_, _%_, _<_, _≤_}
+use native.Mathlib.Decide.{decLe}
+use native.Mathlib.Nat.{lt-of-not-le}
 use native.Mathlib.Omega.{arith}
-use lib.IntN.{ℤ}
 use lib.Dec.{T, leb, eqb}
 use lib.Ieee.{Float, nan, inf, fin, binary32, odd, ofFields, ofBits, toBits, nanBits, isNan, fits, ne}
-use lib.Ieee.Bits.{ofBits-toBits, nanBits-is, is-false, is-true}
-use lib.Ieee.Compare.{nan-differs}
+use lib.Ieee.Bits.{ofBits-toBits, toBits-lt, nanBits-is}
 use borrow.Author.Tests.{lt-leb, le-leb}
 use Rattle.floats.specs.F32.{0f, 1f}
 use Rattle.floats.specs.Sign.{absOf, signBit}
-
--- what `x != x` says where it fails
-pub no-nan : (x : Float) → ne x x ≡ false → isNan x ≡ false
-unfolding isNan ne
-no-nan nan e = e
-no-nan (inf s) e = refl
-no-nan (fin s m x) e = refl
-
-pub is-nan : (x : Float) → ne x x ≡ true → x ≡ nan
-is-nan x e = lib.Ieee.Compare.differs-from-itself x (subst T (sym e) tt)
+use Rattle.floats.proofs.Nan.{no-nan}
+use Rattle.floats.proofs.Patterns.{ofBits-is, bits-no-nan}
 
 abs-odd : (d : ℕ) (s : Bool) (q k l : ℕ) → absOf (odd d s q k l) ≡ odd d false q k l
 unfolding absOf odd
@@ -37,10 +29,6 @@ abs-fields s (suc x) t = go (eqb (suc x) 255) (eqb t 0)
     go true false = refl
     go false b = abs-odd 24 s (8388608 + t) x 149
 
-pub of-bits : (b : ℕ) → ofBits binary32 b ≡ ofFields binary32 (leb 2147483648 b) (b % 2147483648 / 8388608) (b % 8388608)
-unfolding ofBits
-of-bits b = refl
-
 under : (b : ℕ) → b % 2147483648 < 2147483648
 under b = omega arith
 
@@ -52,7 +40,7 @@ low b = omega arith
 
 -- dropping the sign's bit drops the sign
 clear : (b : ℕ) → ofBits binary32 (b % 2147483648) ≡ absOf (ofBits binary32 b)
-clear b = rw (of-bits b, of-bits (b % 2147483648), lt-leb 2147483648 (b % 2147483648) (under b), high b, low b, abs-fields)
+clear b = rw (ofBits-is b, ofBits-is (b % 2147483648), lt-leb 2147483648 (b % 2147483648) (under b), high b, low b, abs-fields)
 
 pub abs-bits : (x : Float) → T (fits binary32 x) → ofBits binary32 (toBits binary32 x % 2147483648) ≡ absOf x
 abs-bits x h = rw (clear, ofBits-toBits binary32 x h)
@@ -96,21 +84,33 @@ negative-fields s (suc x) t n = go (eqb (suc x) 255) (eqb t 0) n
     go false b n = negative-odd 24 s (8388608 + t) x 149
 
 pub negative-bits : (x : Float) → T (fits binary32 x) → isNan x ≡ false → leb 2147483648 (toBits binary32 x) ≡ negative x
-negative-bits x h n = let b = toBits binary32 x in let e = sym (of-bits b) ∙ ofBits-toBits binary32 x h in
+negative-bits x h n = let b = toBits binary32 x in let e = sym (ofBits-is b) ∙ ofBits-toBits binary32 x h in
     rw e at (sym (negative-fields (leb 2147483648 b) (b % 2147483648 / 8388608) (b % 8388608) (rw e n)))
 
 pub sign-is : (x : Float) → isNan x ≡ false → signBit x ≡ cond (negative x) 1f 0f
-unfolding signBit negative isNan
-sign-is nan e = refl
+unfolding signBit negative
+sign-is nan e = absurd (nan-is e)
 sign-is (inf s) e = refl
 sign-is (fin s m e) _ = refl
 
-pub sign-set : (x : Float) → T (fits binary32 x) → ne x x ≡ false → 2147483648 ≤ toBits binary32 x → 1f ≡ signBit x
-sign-set x h e g = rw (sign-is x (no-nan x e), ← negative-bits x h (no-nan x e), le-leb _ _ g)
+-- the sign's bit times the pattern of 1
+pub bit-le : (b : ℕ) → b < 4294967296 → b / 2147483648 ≤ 1
+bit-le b h = omega arith
 
-pub sign-clear : (x : Float) → T (fits binary32 x) → ne x x ≡ false → toBits binary32 x < 2147483648 → 0f ≡ signBit x
-sign-clear x h e g = rw (sign-is x (no-nan x e), ← negative-bits x h (no-nan x e), lt-leb _ _ g)
+pub bit-no-nan : (b : ℕ) → b < 4294967296 → nanBits binary32 (b / 2147483648 * 1065353216) ≡ false
+bit-no-nan b h = bits-no-nan (b / 2147483648 * 1065353216) (omega (arith, bit-le b h))
 
-pub nan-is-nan : isNan nan ≡ true
-unfolding isNan
-nan-is-nan = refl
+at-bit : (b : ℕ) → b < 4294967296 → ofBits binary32 (b / 2147483648 * 1065353216) ≡ cond (leb 2147483648 b) 1f 0f
+at-bit b h = elim (decLe 2147483648 b) [
+  | yes g ↦ rw (one b h g, le-leb 2147483648 b g)
+  | no g ↦ rw (none b (lt-of-not-le g), lt-leb 2147483648 b (lt-of-not-le g))
+]
+  where
+    one : (b : ℕ) → b < 4294967296 → 2147483648 ≤ b → b / 2147483648 * 1065353216 ≡ 1065353216
+    one b h g = omega arith
+
+    none : (b : ℕ) → b < 2147483648 → b / 2147483648 * 1065353216 ≡ 0
+    none b g = omega arith
+
+pub sign-by-bit : (x : Float) → T (fits binary32 x) → ne x x ≡ false → ofBits binary32 (toBits binary32 x / 2147483648 * 1065353216) ≡ signBit x
+sign-by-bit x h e = rw (sign-is x (no-nan x e), ← negative-bits x h (no-nan x e)) (at-bit (toBits binary32 x) (toBits-lt binary32 x h))

@@ -1,16 +1,15 @@
--- 2 ^ x of an f32, by the table rule of docs/01-scope.md, "Added by design". Definitions only.
--- The rule's letters: N is the floor of x * 65,536; i the floor of N / 65,536; j the floor of N / 256, modulo 256; r is N modulo 256; E(0) to E(256) is the table `entries`; m mixes
--- E(j) and E(j + 1). N and i can be negative. Natural numbers stand here for them: n = N + 128 * 65,536, which is 0 at least for an x from -126 up, and i + 128.
+-- 2 ^ x of an f32, by the table rule of docs/01-scope.md, "Added by design", letter by letter. Definitions only.
+-- N, the floor of x * 65,536, and i, the floor of N / 65,536, can be negative. Natural numbers stand for them here: n = N + 128 * 65,536,
+-- which is above 0 for an x from -126 up, and i + 128. j and r are the same for n as for N.
 use Prim.Native.Nat.{ℕ, _+_, _-_, _*_, _/_, _%_, _^_, _≤_, _<_}
 use mathlib.Core.Bool.{true, false, cond}
 use mathlib.Core.List.{List, [], _∷_}
 use lib.IntN.{pos}
 use lib.ListN.{getD}
-use lib.Dec.{leb}
 use lib.Ieee.{Float, nan, inf, fin, up, down, odd, isNan, le, lt}
-use Rattle.floats.specs.Pattern.{significandOf, exponentOf}
 
--- E(0) to E(256): the whole numbers with E ^ 256 ≤ 2 ^ (5888 + entry) < (E + 1) ^ 256. `rule` of proofs/Entries.antt shows it of each, and `only` that no other number has it
+-- E(0) to E(256): the whole numbers with E ^ 256 ≤ 2 ^ (5888 + entry) < (E + 1) ^ 256.
+-- `rule` of proofs/Entries.antt shows that of each, and `only` that no other number meets it.
 unfoldable pub entries : List ℕ
 entries =
     8388608 ∷ 8411351 ∷ 8434157 ∷ 8457024 ∷ 8479953 ∷ 8502945 ∷ 8525999 ∷ 8549115 ∷ 8572294 ∷ 8595536 ∷ 8618841 ∷ 8642209 ∷
@@ -46,20 +45,23 @@ unfoldable pub entryOf : ℕ → ℕ
 unfolding entries
 entryOf k = getD entries k 0
 
--- n: the floor of (x + 128) * 65,536, for a finite x from -126 up. x is m * up e / down e, or minus that. (proofs/PowerReview.antt: n is N + 128 * 65,536)
+-- n: the floor of (x + 128) * 65,536, for a finite x from -126 up; x is m * up e / down e, or minus that.
+-- `plus-floor` and `minus-floor` of proofs/PowerReview.antt show that it is N + 128 * 65,536.
 unfoldable pub scaled : Float → ℕ
 scaled nan = 0
 scaled (inf s) = 0
 scaled (fin false m e) = (8388608 * down e + m * up e * 65536) / down e
 scaled (fin true m e) = (8388608 * down e - m * up e * 65536) / down e
 
--- i + 128, j and r, from n. 128 * 65,536 is a multiple of 65,536, so it adds 128 to i and nothing to j and r
+-- i + 128, where i is the floor of N / 65,536
 abbrev pub iOf+128 : ℕ → ℕ
 iOf+128 n = n / 65536
 
+-- j: the floor of N / 256, modulo 256
 abbrev pub jOf : ℕ → ℕ
 jOf n = n / 256 % 256
 
+-- r: N modulo 256
 abbrev pub rOf : ℕ → ℕ
 rOf n = n % 256
 
@@ -68,7 +70,7 @@ unfoldable pub mix : ℕ → ℕ → ℕ
 unfolding entryOf
 mix j r = (entryOf j * (256 - r) + entryOf (j + 1) * r) / 256
 
--- the answer m * 2 ^ (i - 23): it is m * 2 ^ (i + 126) / 2 ^ 149
+-- the answer, m * 2 ^ (i - 23): that is m * 2 ^ (i + 126) / 2 ^ 149, and i + 126 is i + 128 less 2
 unfoldable pub powAt : ℕ → Float
 unfolding mix odd
 powAt n = odd 24 false (mix (jOf n) (rOf n)) (iOf+128 n - 2) 149
@@ -84,7 +86,3 @@ minus126 = fin true 63 (pos 1)
 unfoldable pub exp2Of : Float → Float
 unfolding isNan le lt powAt scaled
 exp2Of x = cond (isNan x) nan (cond (le one28 x) (inf false) (cond (lt x minus126) (fin false 0 (pos 0)) (powAt (scaled x))))
-
--- `scaled`, by the bit pattern: the size is n * 2 ^ -149, so times 65,536 it is n / 2 ^ 133
-unfoldable pub stepsOf : ℕ → ℕ
-stepsOf b = cond (leb 2147483648 b) ((8388608 * 2 ^ 133 - significandOf b * 2 ^ exponentOf b) / 2 ^ 133) ((8388608 * 2 ^ 133 + significandOf b * 2 ^ exponentOf b) / 2 ^ 133)

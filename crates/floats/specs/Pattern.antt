@@ -12,11 +12,11 @@ use Rattle.floats.specs.F32.{_⊖_, _⊗_, bits}
 abbrev pub fieldOf : ℕ → ℕ
 fieldOf b = b % 2147483648 / 8388608
 
--- the digits, with the leading one that a field above 0 stands for
+-- the significand, with the leading one that a field above 0 stands for
 abbrev pub significandOf : ℕ → ℕ
 significandOf b = cond (eqb (fieldOf b) 0) (b % 8388608) (8388608 + b % 8388608)
 
--- fields 0 and 1 both stand for place 0
+-- the exponent, in units of 2 ^ -149: fields 0 and 1 both stand for 0
 abbrev pub exponentOf : ℕ → ℕ
 exponentOf b = fieldOf b - 1
 

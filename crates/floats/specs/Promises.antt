@@ -1,17 +1,25 @@
--- What the steps of `sqrt` promise each other. Definitions only.
-use mathlib.Core.Path.{_≡_}
-use Prim.Native.Nat.{ℕ, _+_, _-_, _*_, _%_, _^_, _≤_, _<_}
-
--- m * 2 ^ a has 47 or 48 digits, and what is left of the power j + 149 is even
-pub record Shifted (m j a : ℕ) : Type 0 where
-  pub most : a < 48
-  pub even : (j + 149 - a) % 2 ≡ 0
-  pub low : 2 ^ 46 ≤ m * 2 ^ a
-  pub high : m * 2 ^ a < 2 ^ 48
+-- What the steps of `sqrt` and of `exp2` promise each other. Definitions only.
+use Prim.Native.Nat.{ℕ, _+_, _-_, _*_, _/_, _%_, _^_, _≤_, _<_}
+use mathlib.Core.Bool.{cond}
+use lib.Dec.{leb}
+use Rattle.floats.specs.Pattern.{significandOf, exponentOf}
+use Rattle.floats.specs.Sqrt.{BySquares}
 
 -- r is the whole number nearest the root of n: the root lies between r - 1/2 and r + 1/2, whose squares are r * r - r + 1/4 and r * r + r + 1/4
-pub record Nearest (n r : ℕ) : Type 0 where
+pub record NearestRoot (n r : ℕ) : Type 0 where
   pub low : 2 ^ 23 ≤ r
-  pub high : r ≤ 2 ^ 24
+  pub high : r < 2 ^ 24
   pub above : r * r < n + r
   pub under : n ≤ r * r + r
+
+-- r is the pattern of the root of n smallest values: its significand and its exponent are what the squares ask. It is finite, and 2 ^ -63 at least
+pub record RootPattern (n r : ℕ) : Type 0 where
+  pub least : 64 * 8388608 ≤ r
+  pub most : r < 2139095040
+  pub squares : BySquares (n * 2 ^ 149) (8388608 + r % 8388608) (r / 8388608 - 1)
+
+-- `scaled` of the f32 with the pattern b: its size is n * 2 ^ -149, and times 65,536 that is n / 2 ^ 133
+unfoldable pub stepsOf : ℕ → ℕ
+stepsOf b =
+    let n = significandOf b * 2 ^ exponentOf b in
+    cond (leb 2147483648 b) ((8388608 * 2 ^ 133 - n) / 2 ^ 133) ((8388608 * 2 ^ 133 + n) / 2 ^ 133)

@@ -1,15 +1,17 @@
 -- The square root of an f32: the f32 nearest the exact root, ties to even, said with whole-number squares. Definitions only.
--- A positive finite f32 is n smallest values, n / 2 ^ 149. Its root, in units of 2 ^ -149 again, is the root of sq = n * 2 ^ 149.
--- `BySquares` says by squares alone which q * 2 ^ k is nearest that root. `rootUnits` computes it, and proofs/RootBySquares.antt shows that it meets `BySquares`
--- (`root-squares`), and that whatever q and k meet it are the same f32 (`root-only`).
+-- A positive finite f32 is n / 2 ^ 149, n of the smallest values. Its root, in smallest values again, is the root of sq = n * 2 ^ 149.
+-- `BySquares` says by squares alone which q * 2 ^ k is nearest that root. `rootUnits` works it out. proofs/RootSquares.antt shows that what it
+-- gives meets `BySquares` (`root-squares`), and proofs/RootOnly.antt that any q and k which meet it are the same f32 (`root-only`).
 use mathlib.Core.Path.{_≡_}
 use Prim.Native.Nat.{ℕ, zero, suc, _+_, _-_, _*_, _/_, _%_, _^_, _≤_, compare}
-use mathlib.Core.Bool.{Bool, true, false, cond}
+use mathlib.Core.Bool.{true, false, cond}
 use lib.Dec.{leb}
 use lib.Ieee.{Float, nan, inf, fin, up, down, size, nearest, odd}
 
--- q * 2 ^ k is nearest the root of sq. From 2 ^ 23 * 2 ^ k up to 2 ^ 24 * 2 ^ k the numbers of 24 digits are the multiples of 2 ^ k: the root is not below the first of them,
--- q is not above the last, and the root lies from (q - 1/2) * 2 ^ k to (q + 1/2) * 2 ^ k, each side doubled and squared. Where it lies on an end, q is even.
+-- q * 2 ^ k is the f32 nearest the root of sq.
+-- The root is 2 ^ 23 * 2 ^ k at least (`place`). From there up to 2 ^ 24 * 2 ^ k the f32s are the multiples of 2 ^ k, and below it they lie closer, so
+-- that a q of 2 ^ 23 would pass for a root that a number below is nearer to.
+-- The root lies from (q - 1/2) * 2 ^ k to (q + 1/2) * 2 ^ k: each side is doubled and squared (`above`, `under`). Where it lies on an end, q is even.
 pub record BySquares (sq q k : ℕ) : Type 0 where
   pub place : 2 ^ 46 * 2 ^ (k + k) ≤ sq
   pub least : 2 ^ 23 ≤ q
@@ -47,8 +49,8 @@ rootUnits n =
     let k = size s - 24 in
     odd 24 false (nearer sq k (s / 2 ^ k)) k 149
 
--- The root of an f32: of a NaN and of what is below zero NaN, of +infinity +infinity, of a zero that zero, -0 of -0. Any other x, m * up e / down e, is
--- n = m * up e * 2 ^ 149 / down e smallest values, a whole number.
+-- By document 01: below zero, -infinity too, it is NaN, of -0 it is -0 (and of +0 it is +0), of +infinity +infinity, of NaN NaN.
+-- Any other x, m * up e / down e, is a whole number of smallest values, m * up e * 2 ^ 149 / down e.
 unfoldable pub sqrtOf : Float → Float
 unfolding rootUnits
 sqrtOf nan = nan

@@ -15,6 +15,7 @@ pub use pattern::Parts;
 pub use pattern::split;
 pub use power::POWERS;
 pub use power::exp2;
+pub use power::power_table;
 pub use root::sqrt;
 pub use sign::abs;
 pub use sign::sign_bit;

@@ -29,7 +29,7 @@ pub struct Parts {
 }
 
 // For positive normal numbers: the exponent, unbiased, and the mantissa, 1 to 2. Of any other
-// number what the same steps give; a NaN gives two.
+// number what the same steps give; of a NaN two NaNs.
 pub fn split(x: f32) -> Parts
     ensures { λ r. ⌜ r ≡ splitOf x ⌝ }
 {

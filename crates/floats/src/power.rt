@@ -2,10 +2,13 @@
 use crate::pattern::exponent;
 use crate::pattern::significand;
 ghost use mathlib.Core.Path.{_≡_};
-ghost use Prim.Native.Nat.{_-_, _*_, min, _^_, _≤_, _<_};
+ghost use mathlib.Core.Bool.{cond};
+ghost use Prim.Native.Nat.{_+_, _-_, _*_, min, _^_, _≤_, _<_};
+ghost use lib.Dec.{leb};
 ghost use lib.Ieee.{binary32, ofBits};
 ghost use Rattle.floats.specs.Pattern.{significandOf, exponentOf};
-ghost use Rattle.floats.specs.Exp2.{exp2Of, powAt, entries, stepsOf};
+ghost use Rattle.floats.specs.Exp2.{exp2Of, powAt, entries};
+ghost use Rattle.floats.specs.Promises.{stepsOf};
 
 // E(0) to E(256). An indexed constant is stored anew in each call, so whoever calls `exp2` often
 // keeps a copy and lends it.
@@ -269,6 +272,13 @@ pub const POWERS: [u32; 257] = [
     16777216,
 ];
 
+// The table, to keep and to lend.
+pub fn power_table() -> [u32; 257]
+    ensures { λ r. ⌜ r ≡ entries ⌝ }
+{
+    POWERS
+}
+
 // How far the digits go down: from place j to 2^-16. They are below 2^24, so 25 is as good as more.
 fn drop_of(j: u32) -> u32
     requires { ⌜ j ≤ 133 ⌝ }
@@ -277,7 +287,15 @@ fn drop_of(j: u32) -> u32
     if j < 108 { 25 } else { 133 - j }
 }
 
-// The floor of (x + 128) * 65,536, for the x with the pattern b.
+// w + m, or w - m where the pattern b has the sign set.
+fn moved(b: u32, w: u64, m: u64) -> u64
+    requires { ⌜ (w + m < 2 ^ 64) × (m ≤ w) ⌝ }
+    ensures { λ r. ⌜ r ≡ cond (leb 2147483648 b) (w - m) (w + m) ⌝ }
+{
+    if b < 2147483648 { w + m } else { w - m }
+}
+
+// n: the floor of (x + 128) * 65,536, for the x with the pattern b.
 fn steps(b: u32) -> u32
     requires { ⌜ significandOf b * 2 ^ exponentOf b ≤ 8388608 * 2 ^ 133 ⌝ }
     ensures { λ r. ⌜ r ≡ stepsOf b ⌝ }
@@ -285,12 +303,7 @@ fn steps(b: u32) -> u32
     let m = significand(b);
     let j = exponent(b);
     let s = drop_of(j);
-    let whole = 8388608u64 << s;
-    if b < 2147483648 {
-        ((whole + (m as u64)) >> s) as u32
-    } else {
-        ((whole - (m as u64)) >> s) as u32
-    }
+    (moved(b, 8388608u64 << s, m as u64) >> s) as u32
 }
 
 // The pattern of 2^(n / 65,536 - 128), by the table.

@@ -1,27 +1,22 @@
 // The square root: the f32 nearest the exact root, ties to even.
-use crate::pattern::exponent;
-use crate::pattern::significand;
 ghost use mathlib.Core.Path.{_≡_};
-ghost use Prim.Native.Nat.{_+_, _*_, _^_, _≤_, _<_};
+ghost use Prim.Native.Nat.{_-_, _*_, _^_, _≤_, _<_};
 ghost use lib.Ieee.{binary32, ofBits};
-ghost use Rattle.floats.specs.Pattern.{significandOf, exponentOf};
 ghost use Rattle.floats.specs.Sqrt.{sqrtOf, rootUnits};
-ghost use Rattle.floats.specs.Promises.{Shifted, Nearest};
+ghost use Rattle.floats.specs.Promises.{NearestRoot, RootPattern};
 
-// A whole number near the root of n. What is worked out from it is right for any guess; a good one
-// makes it quick. 1 / sqrt(t), for t = n / 2^46 from 1 to 4, is a cubic to within 0.7%, and two steps
-// of Newton's method bring the root to within a fifth of 1. Adding 2^52 leaves a float's whole part
-// in the last digits of its pattern.
-fn guess(n: u64) -> u64
-    requires { ⌜ n < 2 ^ 48 ⌝ }
-    ensures { λ r. ⌜ (2 ^ 23 ≤ r) × (r ≤ 2 ^ 24) ⌝ }
+// A whole number near 2^23 times the root of t, where t, from 1 to 4, is 2^(u / 2^23) times the
+// number with the fraction u % 2^23. What is worked out from the guess is right for any; a good one
+// makes it quick. The quadratic is within 0.6% of the root, and two steps of Newton's method bring
+// that to less than 1 in 2^33. A float plus 2^52 has its nearest whole number in its last digits.
+fn guess(u: u32) -> u64
+    requires { ⌜ u < 2 ^ 24 ⌝ }
+    ensures { λ r. ⌜ (2 ^ 23 ≤ r) × (r < 2 ^ 24) ⌝ }
 {
-    let t = ((n / 65536) as u32) as f64 * 0.000000000931322574615478515625;
-    let half = t * 0.5;
-    let y = (1.5561871 - 0.73886305 * t) + (0.1946857 - 0.019050414 * t) * (t * t);
-    let z = y * (1.5 - half * (y * y));
-    let w = z * (1.5 - half * (z * z));
-    let s = t * 8388608.0 * w + 4503599627370496.0;
+    let t = f64::from_bits((u as u64) * 0x2000_0000 + 0x3ff0_0000_0000_0000);
+    let y = 0.5185546 + (0.5260097 - 0.0395401 * t) * t;
+    let z = (y + t / y) * 0.5;
+    let s = (z + t / z) * 4194304.0 + 4503599627370496.0;
     if s != s {
         return 8388608;
     }
@@ -29,15 +24,15 @@ fn guess(n: u64) -> u64
     if q < 8388608 {
         return 8388608;
     }
-    if q > 16777216 { 16777216 } else { q }
+    if q > 16777215 { 16777215 } else { q }
 }
 
-// The whole number nearest the root of n.
-fn rounded(n: u64) -> u64
-    requires { ⌜ (2 ^ 46 ≤ n) × (n < 2 ^ 48) ⌝ }
-    ensures { λ r. ⌜ Nearest n r ⌝ }
+// The whole number nearest the root of n, from any guess.
+fn nearest_root(n: u64, near: u64) -> u64
+    requires { ⌜ (2 ^ 46 ≤ n) × (n ≤ 2 ^ 48 - 2 ^ 24) ⌝ ∗ ⌜ (2 ^ 23 ≤ near) × (near < 2 ^ 24) ⌝ }
+    ensures { λ r. ⌜ NearestRoot n r ⌝ }
 {
-    let mut r = guess(n);
+    let mut r = near;
     while n + r <= r * r {
         r -= 1;
     }
@@ -47,25 +42,26 @@ fn rounded(n: u64) -> u64
     r
 }
 
-// How far the digits m go up, to 47 or 48 places, so that the root has 24 and the power of two left over is even.
-fn shift(m: u32, j: u32) -> u32
-    requires { ⌜ (0 < m) × (m < 2 ^ 24) × (j < 254) ⌝ }
-    ensures { λ a. ⌜ Shifted m j a ⌝ }
+// The pattern of the root of m × 2^j smallest values, where m has 24 digits. Moved up by 23 or 24
+// places, so that the power of two left over is even, m has a root of 24 digits.
+fn root_bits(m: u32, j: u32) -> u32
+    requires { ⌜ (2 ^ 23 ≤ m) × (m < 2 ^ 24) × (j < 254) ⌝ }
+    ensures { λ r. ⌜ RootPattern (m * 2 ^ j) r ⌝ }
 {
-    let up = 15 + u32::leading_zeros(m);
-    up + (j + 149 + up) % 2
+    let odd = j % 2;
+    let near = guess(m - 8388608 + odd * 8388608);
+    let q = nearest_root((m as u64) << (23 + odd), near);
+    (j + 126) / 2 * 8388608 + (q as u32)
 }
 
-// The pattern of the root of a positive finite f32 with the pattern b.
-fn root_bits(b: u32) -> u32
-    requires { ⌜ (0 < b) × (b < 2139095040) ⌝ }
-    ensures { λ r. ⌜ (r < 2139095040) × (ofBits binary32 r ≡ rootUnits (significandOf b * 2 ^ exponentOf b)) ⌝ }
+// The pattern of the root of b smallest values, a subnormal f32: 2^24 times as much has a root 2^12
+// times as large.
+fn small_root_bits(b: u32) -> u32
+    requires { ⌜ (0 < b) × (b < 2 ^ 23) ⌝ }
+    ensures { λ r. ⌜ (r < 2139095040) × (ofBits binary32 r ≡ rootUnits b) ⌝ }
 {
-    let m = significand(b);
-    let j = exponent(b);
-    let a = shift(m, j);
-    let q = rounded((m as u64) << a);
-    (j + 149 - a) / 2 * 8388608 + (q as u32)
+    let up = u32::leading_zeros(b) - 8;
+    root_bits(b << up, 24 - up) - 100663296
 }
 
 // The f32 nearest the root of x, ties to even.
@@ -88,5 +84,8 @@ pub fn sqrt(x: f32) -> f32
     if b >= 2139095040 {
         return x;
     }
-    f32::from_bits(root_bits(b))
+    if b < 8388608 {
+        return f32::from_bits(small_root_bits(b));
+    }
+    f32::from_bits(root_bits(8388608 + b % 8388608, b / 8388608 - 1))
 }

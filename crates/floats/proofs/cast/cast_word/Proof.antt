@@ -1,50 +1,54 @@
-use lib.Ieee.{ofBits}
+-- `floats::cast_word` meets its contract. Assumes nothing.
+use mathlib.Core.Path.{_≡_, ap, _∙_, subst}
+use Prim.Native.Nat.{ℕ, _-_, _%_, _≤_, _^_, min}
 use native.Mathlib.Omega.{arith}
+use lib.Ieee.{Float}
 use borrow.Author.Needs.{needs}
-use Rattle.floats.proofs.Casts.{cut, most, least, none, back-word}
+use Rattle.floats.specs.Casts.{castWord}
+use Rattle.floats.proofs.Casts.{wholeOf, word-of-nan, clamped, word-up, word-down}
+use Rattle.floats.proofs.Nan.{is-nan, no-nan-T}
+use Rattle.floats.proofs.Read.{bitsOf, read, bits-lt, read-no-nan}
 use Rattle.floats.proofs.cast.cast_word.Statement.{statement}
 use Rattle.floats.proofs.cast.cast_word.Tie as tie
-use Rattle.floats.proofs.cast.cast_word.Reads as reads
-use Rattle.floats.proofs.cast.cast_word.Lts as lts
-
-truncating-f32-to-u64-requires : tie.Need-truncating-f32-to-u64-requires
-unfolding ofBits
-truncating-f32-to-u64-requires c κs = let k = cut _ (c .before .if1 .taken) (c .if2 .taken) in (k .above, k .below)
-
-cast-result : tie.Need-cast-result
-unfolding ofBits
-cast-result c = omega (arith, cut _ (c .before .before .if1 .taken) (c .before .if2 .taken) .small)
-
-truncating-f32-to-u64-requires-2 : tie.Need-truncating-f32-to-u64-requires-2
-unfolding ofBits
-truncating-f32-to-u64-requires-2 c κs = let k = cut _ (c .before .if3 .taken) (c .if4 .taken) in (k .above, k .below)
-
-sub-result : tie.Need-sub-result
-unfolding ofBits
-sub-result c = omega (arith, cut _ (c .before .before .if3 .taken) (c .before .if4 .taken) .small)
-
-cast-result-2 : tie.Need-cast-result-2
-cast-result-2 c = search needs
 
 returns : tie.Need-returns
-unfolding ofBits
-returns c = omega (arith, cut _ (c .before .before .if1 .taken) (c .before .if2 .taken) .cast)
+returns c = rw (is-nan _ (c .if1 .taken)) word-of-nan
+
+float-to-bits-b : tie.Need-float-to-bits-b
+float-to-bits-b c = no-nan-T _ (c .if1 .left)
+
+-- the size, cut to 2 ^ 31
+size : (c : tie.After-whole-part) → c .whole-part .result ≡ wholeOf (min (bitsOf (c .before .before .before .args .x) % 2147483648) 1325400064)
+size c = c .whole-part .ensures ∙ ap wholeOf (c .before .least .ensures)
+
+size-le : (c : tie.After-whole-part) → c .whole-part .result ≤ 2 ^ 31
+size-le c = under (c .whole-part .result) (wholeOf (bitsOf (c .before .before .before .args .x))) (size c ∙ clamped (bitsOf (c .before .before .before .args .x)))
+  where
+    under : (s z : ℕ) → s ≡ min z (2 ^ 31) → s ≤ 2 ^ 31
+    under s z e = omega arith
+
+cast-least : tie.Need-cast-least
+cast-least c = omega (arith, size-le c)
+
+sub-down : tie.Need-sub-down
+sub-down c = omega (arith, size-le (c .before))
 
 returns-2 : tie.Need-returns-2
-unfolding ofBits
-returns-2 c = most _ (c .before .if1 .taken) (c .if2 .left)
+returns-2 c =
+    let w = c .before .before in
+    let s = w .before .before .before in
+    c .before .least2 .ensures
+    ∙ ap (λ (z : ℕ). min z 2147483647) (size w)
+    ∙ subst (λ (x : Float). min (wholeOf (min (bitsOf (s .args .x) % 2147483648) 1325400064)) 2147483647 ≡ castWord x) (read (s .args .x) (s .good .0 .1))
+    (word-up (bitsOf (s .args .x)) (bits-lt (s .args .x) (s .good .0 .1)) (read-no-nan (s .args .x) (s .good .0 .1) (w .before .before .if1 .left)) (c .if2 .taken))
 
 returns-3 : tie.Need-returns-3
-unfolding ofBits
-returns-3 c = rw (c .truncating-f32-to-u642 .ensures) (back-word _ (c .before .before .if3 .taken) (c .before .if4 .taken))
-
-returns-4 : tie.Need-returns-4
-unfolding ofBits
-returns-4 c = least _ (c .before .if3 .taken) (c .if4 .left)
-
-returns-5 : tie.Need-returns-5
-unfolding ofBits
-returns-5 c = none _ (c .before .if1 .left) (c .if3 .left)
+returns-3 c =
+    let w = c .before .before in
+    let s = w .before .before .before in
+    ap (λ (z : ℕ). (4294967296 - z) % 4294967296) (size w)
+    ∙ subst (λ (x : Float). (4294967296 - wholeOf (min (bitsOf (s .args .x) % 2147483648) 1325400064)) % 4294967296 ≡ castWord x) (read (s .args .x) (s .good .0 .1))
+    (word-down (bitsOf (s .args .x)) (bits-lt (s .args .x) (s .good .0 .1)) (read-no-nan (s .args .x) (s .good .0 .1) (w .before .before .if1 .left)) (c .if2 .left))
 
 pub cast-word-spec : {M : Type 1} → statement M
-cast-word-spec = tie.close (tie.spec truncating-f32-to-u64-requires cast-result truncating-f32-to-u64-requires-2 sub-result cast-result-2 returns returns-2 returns-3 returns-4 returns-5)
+cast-word-spec = tie.close (tie.spec returns float-to-bits-b (λ c κs. search needs) (λ c κs. search needs) cast-least (λ c κs. search needs) sub-down (λ c. search needs) returns-2 returns-3)

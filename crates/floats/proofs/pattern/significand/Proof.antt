@@ -4,7 +4,7 @@ use mathlib.Core.Bool.{Bool, cond}
 use Prim.Native.Nat.{_+_, _%_}
 use borrow.Author.Needs.{needs}
 use borrow.Author.Tests.{eq-eqb, ne-eqb}
-use Rattle.floats.specs.Pattern.{fieldOf, significandOf}
+use Rattle.floats.specs.Pattern.{fieldOf}
 use Rattle.floats.proofs.pattern.significand.Statement.{statement}
 use Rattle.floats.proofs.pattern.significand.Tie as tie
 

@@ -1,19 +1,17 @@
-use mathlib.Core.Path.{_≡_, refl, sym, subst, ap}
-use mathlib.Core.Bool.{Bool, false, not, _&&_}
-use Prim.Native.Nat.{ℕ, _*_, _/_, _%_, _^_, _<_, _≤_}
+-- `floats::split` meets its contract. Assumes nothing.
+use mathlib.Core.Path.{_≡_, refl}
+use mathlib.Core.Bool.{Bool, false, _&&_}
+use Prim.Native.Nat.{ℕ, _*_, _/_, _%_}
 use native.Mathlib.Omega.{arith}
 use native.Mathlib.Nat.{mul-mod-left}
-use lib.Dec.{T, eqb, le→leb}
-use lib.Ieee.{Float, nan, binary32, fits, toBits, isNan, nanBits, inFloat, hid}
-use lib.Ieee.Bits.{toBits-lt}
+use lib.Dec.{eqb, le→leb}
+use lib.Ieee.{binary32, toBits, nanBits, inFloat}
 use borrow.Author.Needs.{needs}
 use Rattle.floats.specs.Pattern.{splitOf}
-use Rattle.floats.proofs.Signs.{no-nan, is-nan, nan-is-nan}
+use Rattle.floats.proofs.Nan.{is-nan, no-nan, no-nan-T, nan-is}
+use Rattle.floats.proofs.Read.{bits-lt}
 use Rattle.floats.proofs.pattern.split.Statement.{statement}
 use Rattle.floats.proofs.pattern.split.Tie as tie
-
-held : (c : tie.Start) → T (fits binary32 (c .args .x))
-held c = subst T (sym (c .good .0 .1)) tt
 
 -- a pattern whose 23 low digits are 0 is no NaN's
 clean : (k : ℕ) → nanBits binary32 (k * 8388608) ≡ false
@@ -25,10 +23,10 @@ clean k = rw (mul-mod-left k 8388608) (and-false (eqb (k * 8388608 % 2147483648 
     and-false mathlib.Core.Bool.false = refl
 
 float-to-bits-biased : tie.Need-float-to-bits-biased
-float-to-bits-biased c = rw (no-nan _ (c .if1 .left)) tt
+float-to-bits-biased c = no-nan-T _ (c .if1 .left)
 
 sub-scale : tie.Need-sub-scale
-sub-scale c = omega (arith, toBits-lt binary32 _ (held (c .before)))
+sub-scale c = omega (arith, bits-lt _ (c .before .good .0 .1))
 
 mul-scale : tie.Need-mul-scale
 mul-scale c = search needs
@@ -38,11 +36,11 @@ float-from-bits-scale c = rw clean tt
 
 int-to-float-t9 : tie.Need-int-to-float-t9
 unfolding inFloat
-int-to-float-t9 c = le→leb (toBits binary32 (c .before .before .args .x) / 8388608) 16777216 (omega (arith, toBits-lt binary32 _ (held (c .before .before))))
+int-to-float-t9 c = le→leb (toBits binary32 (c .before .before .args .x) / 8388608) 16777216 (omega (arith, bits-lt _ (c .before .before .good .0 .1)))
 
 returns : tie.Need-returns
 unfolding splitOf
-returns c = rw (is-nan _ (c .if1 .taken), nan-is-nan)
+returns c = rw (is-nan _ (c .if1 .taken), nan-is)
 
 returns-2 : tie.Need-returns-2
 unfolding splitOf

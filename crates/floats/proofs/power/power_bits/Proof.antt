@@ -1,12 +1,11 @@
 -- `floats::power_bits` meets its contract. Assumes nothing.
-use mathlib.Core.Path.{_≡_, sym, ap, _∙_, subst}
+use mathlib.Core.Path.{_≡_, ap, _∙_}
 use mathlib.Core.List.{List}
-use Prim.Native.Nat.{ℕ, _+_, _-_, _*_, _/_, _%_, _^_, _≤_, _<_}
+use Prim.Native.Nat.{ℕ, _+_, _-_, _*_, _/_, _%_}
 use native.Mathlib.Omega.{arith}
 use lib.ListN.{getD}
-use lib.Ieee.{binary32, ofBits}
 use borrow.Author.Needs.{needs}
-use Rattle.floats.specs.Exp2.{entries, entryOf}
+use Rattle.floats.specs.Exp2.{entryOf}
 use Rattle.floats.proofs.Mixing.{Mixed, at, powers}
 use Rattle.floats.proofs.Entries.{range}
 use Rattle.floats.proofs.Patterns.{made}

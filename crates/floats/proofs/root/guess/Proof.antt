@@ -1,8 +1,14 @@
 -- `floats::guess` meets its contract, whatever the arithmetic gives: a NaN and a number out of range are replaced. Assumes nothing.
+use Prim.Native.Nat.{_+_, _*_}
+use native.Mathlib.Omega.{arith}
 use borrow.Author.Needs.{needs}
 use Rattle.floats.proofs.Nan.{no-nan-T}
+use Rattle.floats.proofs.Patterns.{wide-no-nan}
 use Rattle.floats.proofs.root.guess.Statement.{statement}
 use Rattle.floats.proofs.root.guess.Tie as tie
+
+float-from-bits-t : tie.Need-float-from-bits-t
+float-from-bits-t c = rw (wide-no-nan (c .args .u * 536870912 + 4607182418800017408) (omega arith)) tt
 
 float-to-bits-q : tie.Need-float-to-bits-q
 float-to-bits-q c = no-nan-T _ (c .if1 .left)
@@ -10,4 +16,4 @@ float-to-bits-q c = no-nan-T _ (c .if1 .left)
 pub guess-spec : {M : Type 1} → statement M
 guess-spec =
     tie.close
-    (tie.spec (λ c. search needs) (λ c. search needs) (λ c. search needs) float-to-bits-q (λ c. search needs) (λ c. search needs) (λ c. search needs))
+    (tie.spec (λ c. search needs) (λ c. search needs) float-from-bits-t (λ c. search needs) float-to-bits-q (λ c. search needs) (λ c. search needs) (λ c. search needs))

@@ -1,35 +1,26 @@
--- `floats::sqrt` meets its contract: what is read from the pattern of x is x, and `proofs/SqrtAt.antt` has the definition at each kind of pattern. Assumes nothing.
+-- `floats::sqrt` meets its contract: what is read from the pattern of x is x, and `proofs/RootCases.antt` has the definition at each kind of pattern. Assumes nothing.
 use mathlib.Core.Path.{_≡_, refl, sym, ap, _∙_, subst}
-use mathlib.Core.Bool.{Bool, not}
-use Prim.Native.Nat.{ℕ, _<_}
+use Prim.Native.Nat.{ℕ, _+_, _-_, _*_, _/_, _%_, _^_}
+use native.Mathlib.Nat.{mul-pos}
 use native.Mathlib.Omega.{arith}
-use lib.Dec.{T}
-use lib.Ieee.{Float, nan, binary32, div, fits, ofBits, toBits}
-use lib.Ieee.Bits.{ofBits-toBits, toBits-lt}
+use lib.Pow.{pow-pos}
+use lib.Ieee.{Float, nan, binary32, div, ofBits}
 use borrow.Author.Needs.{needs}
 use Rattle.floats.specs.Sqrt.{sqrtOf}
 use Rattle.floats.proofs.Nan.{is-nan, no-nan-T}
-use Rattle.floats.proofs.Patterns.{no-nan}
-use Rattle.floats.proofs.RootCases.{of-nan, of-zero, of-minus-zero, of-infinity, of-sign, of-plus}
+use Rattle.floats.proofs.Patterns.{bits-no-nan}
+use Rattle.floats.proofs.Read.{bitsOf, read, bits-lt}
+use Rattle.floats.proofs.RootCases.{of-nan, of-zero, of-minus-zero, of-infinity, of-sign, of-subnormal, of-normal}
+use Rattle.floats.proofs.RootPatterns.{is-root}
 use Rattle.floats.proofs.root.sqrt.Statement.{statement}
 use Rattle.floats.proofs.root.sqrt.Tie as tie
 
--- what owning an `f32` tells: the format holds it
-held : (c : tie.Start) → T (fits binary32 (c .args .x))
-held c = subst T (sym (c .good .0 .1)) tt
-
-abbrev bits : tie.Start → ℕ
-bits c = toBits binary32 (c .args .x)
-
-read : (c : tie.Start) → ofBits binary32 (bits c) ≡ c .args .x
-read c = ofBits-toBits binary32 (c .args .x) (held c)
-
-bits-lt : (c : tie.Start) → bits c < 4294967296
-bits-lt c = toBits-lt binary32 (c .args .x) (held c)
+reads : (c : tie.Start) → ofBits binary32 (bitsOf (c .args .x)) ≡ c .args .x
+reads c = read (c .args .x) (c .good .0 .1)
 
 -- x is read from b, so what is shown of the f32 with the pattern b holds of x
-at : (c : tie.Start) (b : ℕ) → bits c ≡ b → ofBits binary32 b ≡ sqrtOf (ofBits binary32 b) → c .args .x ≡ sqrtOf (c .args .x)
-at c b e h = subst (λ (x : Float). x ≡ sqrtOf x) (ap (λ (n : ℕ). ofBits binary32 n) (sym e) ∙ read c) h
+at : (c : tie.Start) (b : ℕ) → bitsOf (c .args .x) ≡ b → ofBits binary32 b ≡ sqrtOf (ofBits binary32 b) → c .args .x ≡ sqrtOf (c .args .x)
+at c b e h = subst (λ (x : Float). x ≡ sqrtOf x) (ap (λ (n : ℕ). ofBits binary32 n) (sym e) ∙ reads c) h
 
 returns : tie.Need-returns
 returns c = subst (λ (x : Float). x ≡ sqrtOf x) (sym (is-nan (c .before .args .x) (c .if1 .taken))) of-nan
@@ -50,23 +41,45 @@ zero-by-zero = refl
 returns-4 : tie.Need-returns-4
 returns-4 c =
     let s = c .before .before .before .before in
-    zero-by-zero ∙ sym (of-sign (bits s) (c .if4 .taken) (bits-lt s)) ∙ ap sqrtOf (read s)
+    zero-by-zero ∙ sym (of-sign (bitsOf (s .args .x)) (c .if4 .taken) (bits-lt (s .args .x) (s .good .0 .1))) ∙ ap sqrtOf (reads s)
 
 returns-5 : tie.Need-returns-5
 returns-5 c =
     let s = c .before .before .before .before .before in
-    at s (bits s) refl (of-infinity (bits s) (c .if5 .taken) (omega (arith, c .before .if4 .left, c .before .before .if3 .left)))
+    at s (bitsOf (s .args .x)) refl (of-infinity (bitsOf (s .args .x)) (c .if5 .taken) (omega (arith, c .before .if4 .left, c .before .before .if3 .left)))
+
+small-root-bits-requires : tie.Need-small-root-bits-requires
+small-root-bits-requires c κs = search needs
+
+float-from-bits-result : tie.Need-float-from-bits-result
+float-from-bits-result c = rw (bits-no-nan (c .small-root-bits .result) (c .small-root-bits .ensures .0)) tt
+
+returns-6 : tie.Need-returns-6
+returns-6 c =
+    let s = c .before .before .before .before .before .before .before in
+    c .small-root-bits .ensures .1 ∙ sym (of-subnormal (bitsOf (s .args .x)) (omega (arith, c .before .before .before .before .before .if2 .left)) (c .before .if6 .taken)) ∙ ap sqrtOf (reads s)
+
+add-root-bits : tie.Need-add-root-bits
+add-root-bits c = search needs
+
+sub-root-bits : tie.Need-sub-root-bits
+sub-root-bits c = search needs
 
 root-bits-requires : tie.Need-root-bits-requires
 root-bits-requires c κs = search needs
 
-float-from-bits-result : tie.Need-float-from-bits-result
-float-from-bits-result c = subst (λ (t : Bool). T (not t)) (sym (no-nan (c .root-bits .result) (c .root-bits .ensures .0))) tt
+float-from-bits-result-2 : tie.Need-float-from-bits-result-2
+float-from-bits-result-2 c = rw (bits-no-nan (c .root-bits .result) (c .root-bits .ensures .most)) tt
 
-returns-6 : tie.Need-returns-6
-returns-6 c =
-    let s = c .before .before .before .before .before .before in
-    c .root-bits .ensures .1 ∙ sym (of-plus (bits s) (omega (arith, c .before .before .before .before .if2 .left)) (c .before .if5 .left)) ∙ ap sqrtOf (read s)
+returns-7 : tie.Need-returns-7
+returns-7 c =
+    let s = c .before .before .before .before .before .before .before in
+    let r = c .root-bits in
+    is-root ((8388608 + bitsOf (s .args .x) % 8388608) * 2 ^ (bitsOf (s .args .x) / 8388608 - 1)) (r .result) (mul-pos (omega arith) (pow-pos (bitsOf (s .args .x) / 8388608 - 1))) (omega (arith, r .ensures .least)) (r .ensures .most) (r .ensures .squares)
+    ∙ sym (of-normal (bitsOf (s .args .x)) (c .before .if6 .left) (c .before .before .if5 .left))
+    ∙ ap sqrtOf (reads s)
 
 pub sqrt-spec : {M : Type 1} → statement M
-sqrt-spec = tie.close (tie.spec returns float-to-bits-b returns-2 returns-3 returns-4 returns-5 root-bits-requires float-from-bits-result returns-6)
+sqrt-spec =
+    tie.close
+    (tie.spec returns float-to-bits-b returns-2 returns-3 returns-4 returns-5 small-root-bits-requires float-from-bits-result returns-6 add-root-bits sub-root-bits root-bits-requires float-from-bits-result-2 returns-7)

@@ -1,23 +1,36 @@
--- `lanes::floor` meets its contract: its seven ways are the cases of `Floors.antt`. `unfolding ofBits` makes the code's constants the numbers there. Assumes nothing.
-use mathlib.Core.Path.{sym, subst}
-use lib.Dec.{T}
-use lib.Ieee.{binary32, fits, ofBits}
-use Rattle.floats.proofs.Floors.{case-1, case-2, case-3, case-4, case-5, case-6, case-7}
+-- `floats::floor` meets its contract. `unfolding ofBits` makes the code's constants the numbers of proofs/Floors.antt. Assumes nothing.
+use mathlib.Core.Path.{_∙_}
+use lib.Ieee.{ofBits}
+use borrow.Author.Needs.{needs}
+use Rattle.floats.proofs.Floors.{stays, moves, from-up, from-down}
+use Rattle.floats.proofs.Read.{held}
 use Rattle.floats.proofs.whole.floor.Statement.{statement}
 use Rattle.floats.proofs.whole.floor.Tie as tie
 
-held : (c : tie.Start) → T (fits binary32 (c .args .x))
-held c = subst T (sym (c .good .0 .1)) tt
+returns : tie.Need-returns
+unfolding ofBits
+returns c =
+    let w = c .before .before in
+    let i = w .before in
+    let s = i .before .before in
+    stays (s .args .x) (held (s .args .x) (s .good .0 .1)) (i .before .if1 .taken) (i .if2 .taken) (rw (w .away .ensures) at (c .if3 .taken))
+
+returns-2 : tie.Need-returns-2
+unfolding ofBits
+returns-2 c =
+    let w = c .before .before in
+    let i = w .before in
+    let s = i .before .before in
+    c .before .not-above .ensures
+    ∙ (rw (w .away .ensures) (moves (s .args .x) (held (s .args .x) (s .good .0 .1)) (i .before .if1 .taken) (i .if2 .taken) (rw (w .away .ensures) at (c .if3 .left))))
+
+returns-3 : tie.Need-returns-3
+unfolding ofBits
+returns-3 c = let s = c .before .before in from-down (s .args .x) (held (s .args .x) (s .good .0 .1)) (c .before .if1 .taken) (c .if2 .left)
+
+returns-4 : tie.Need-returns-4
+unfolding ofBits
+returns-4 c = let s = c .before in from-up (s .args .x) (held (s .args .x) (s .good .0 .1)) (c .if1 .left)
 
 pub floor-spec : {M : Type 1} → statement M
-unfolding ofBits
-floor-spec =
-    tie.close
-    (tie.spec
-    (λ c. case-1 _ (held (c .before .before .before)) (c .before .before .if1 .taken) (c .before .if2 .taken) (c .if3 .taken))
-    (λ c. case-2 _ (held (c .before .before .before)) (c .before .before .if1 .taken) (c .before .if2 .taken) (c .if3 .left))
-    (λ c. case-3 _ (held (c .before .before)) (c .before .if1 .taken) (c .if2 .left))
-    (λ c. case-4 _ (held (c .before .before .before .before)) (c .before .before .if4 .taken) (c .before .if5 .taken) (c .if6 .taken))
-    (λ c. case-5 _ (held (c .before .before .before .before)) (c .before .before .if4 .taken) (c .before .if5 .taken) (c .if6 .left))
-    (λ c. case-6 _ (held (c .before .before .before)) (c .before .if4 .taken) (c .if5 .left))
-    (λ c. case-7 _ (c .before .if1 .left) (c .if4 .left)))
+floor-spec = tie.close (tie.spec (λ c κs. search needs) (λ c κs. search needs) returns returns-2 returns-3 returns-4)
