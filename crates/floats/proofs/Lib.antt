@@ -3,6 +3,7 @@ pub mod Nan
 pub mod Read
 pub mod Patterns
 pub mod Values
+pub mod Exact
 pub mod Entries
 pub mod PowerCases
 pub mod PowerReview

@@ -1,0 +1,21 @@
+// The half-band decimator of halfband.rs, one lane at a time: `Stage::scalar` under
+// `Decimator::process`. Every operation is rounded by itself.
+pub mod cascade;
+pub mod design;
+pub mod refusal;
+pub mod stage;
+
+pub use cascade::Answer;
+pub use cascade::decimate_lane;
+pub use cascade::process;
+pub use design::CARD;
+pub use design::Design;
+pub use design::Designs;
+pub use design::card_designs;
+pub use design::designs_of;
+pub use refusal::counts_bad;
+pub use refusal::factor_bad;
+pub use refusal::frames_bad;
+pub use refusal::lanes_bad;
+pub use refusal::refused;
+pub use refusal::stages_of;

@@ -1,0 +1,144 @@
+-- The arms of `curve` of wave.rs. `sk` are the sine's numbers. Definitions only.
+use Prim.Native.Nat.{ℕ}
+use mathlib.Core.List.{List, [], _∷_}
+use lib.Ieee as Ieee
+use lib.Ieee.{Float}
+use Rattle.floats.specs.F32.{_⊕_, _⊖_, _⊗_, _⊘_, bits, 0f, 1f, 2f, half, quarter, tau}
+use Rattle.floats.specs.Steps.{_>>=_}
+use Rattle.floats.specs.Floor.{floorOf}
+use Rattle.floats.specs.Sign.{absOf}
+use Rattle.floats.specs.Sqrt.{sqrtOf}
+use Rattle.lanes.specs.Lane.{mulAdd, minOf, maxOf}
+use Rattle.lanes.specs.Maths.{signOf, clampOf, sinCycles, tanhOf, expOf}
+use Rattle.modes.specs.Mode.{numberOf, Valve, SoftClip, HardClip, Diode1, Diode2, Fold, SineFold, ZeroSquare, Asymmetric, Rectify, SineShaper, Pedal, Tape, SoftSaturate}
+use Rattle.modes.specs.Choice.{Case, _⇒_, caseOf}
+
+-- VALVE_TANH_BIAS, VALVE_BIAS
+abbrev pub valveTanhBias : Float
+valveTanhBias = bits 0x3e7a_cbf5
+
+abbrev pub valveBias : Float
+valveBias = bits 0x3e80_0000
+
+-- 1.0 / (1.0 - VALVE_TANH_BIAS * VALVE_TANH_BIAS)
+abbrev pub valveScale : Float
+valveScale = 1f ⊘ (1f ⊖ valveTanhBias ⊗ valveTanhBias)
+
+abbrev pub 4f : Float
+4f = bits 0x4080_0000
+
+abbrev pub 27f : Float
+27f = bits 0x41d8_0000
+
+-- `x` clamped to ±knee
+abbrev pub within : Float → Float → Float
+within knee x = clampOf x (Ieee.neg knee) knee
+
+-- 1.5, FRAC_PI_2
+abbrev pub oneHalf : Float
+oneHalf = bits 0x3fc0_0000
+
+abbrev pub fracPi2 : Float
+fracPi2 = bits 0x3fc9_0fdb
+
+unfoldable pub valveCurve : Float → Float
+valveCurve x = do
+  t ← tanhOf (x ⊕ valveBias)
+  (t ⊖ valveTanhBias) ⊗ valveScale
+
+unfoldable pub softClipCurve : Float → Float
+softClipCurve x = do
+  z ← within oneHalf x
+  z ⊖ z ⊗ z ⊗ z ⊗ (4f ⊘ 27f)
+
+unfoldable pub hardClipCurve : Float → Float
+hardClipCurve x = within 1f x
+
+-- (one - exp(-positive)) - 2.0 * (one - exp(negative * 0.5))
+unfoldable pub diode1Curve : Float → Float
+diode1Curve x = do
+  positive ← maxOf x 0f
+  negative ← minOf x 0f
+  p ← expOf (Ieee.neg positive)
+  n ← expOf (negative ⊗ half)
+  (1f ⊖ p) ⊖ 2f ⊗ (1f ⊖ n)
+
+-- sign(x) * (one - exp(-x.abs()))
+unfoldable pub diode2Curve : Float → Float
+diode2Curve x = do
+  s ← signOf x
+  a ← absOf x
+  e ← expOf (Ieee.neg a)
+  s ⊗ (1f ⊖ e)
+
+-- one - (4.0 * (t - t.floor()) - 2.0).abs()
+unfoldable pub foldCurve : Float → Float
+foldCurve x = do
+  t ← (x ⊕ 1f) ⊗ quarter
+  whole ← floorOf t
+  a ← absOf (4f ⊗ (t ⊖ whole) ⊖ 2f)
+  1f ⊖ a
+
+unfoldable pub sineFoldCurve : List Float → Float → Float
+sineFoldCurve sk x = sinCycles sk (x ⊗ quarter)
+
+unfoldable pub zeroSquareCurve : Float → Float
+zeroSquareCurve x = do
+  a ← absOf x
+  within 1f (x ⊗ a)
+
+unfoldable pub asymmetricCurve : Float → Float
+asymmetricCurve x = do
+  positive ← maxOf x 0f
+  negative ← minOf x 0f
+  p ← tanhOf (positive ⊗ 2f)
+  n ← tanhOf (negative ⊗ half)
+  p ⊗ half ⊕ n ⊗ 2f
+
+unfoldable pub rectifyCurve : Float → Float
+rectifyCurve x = absOf x
+
+unfoldable pub sineShaperCurve : List Float → Float → Float
+sineShaperCurve sk x = do
+  z ← within fracPi2 x
+  sinCycles sk (z ⊗ (1f ⊘ tau))
+
+-- x.max(0.0).min(one) + negative / negative.mul_add(negative, one).sqrt()
+unfoldable pub pedalCurve : Float → Float
+pedalCurve x = do
+  negative ← minOf x 0f
+  positive ← maxOf x 0f
+  clipped ← minOf positive 1f
+  root ← sqrtOf (mulAdd negative negative 1f)
+  clipped ⊕ negative ⊘ root
+
+unfoldable pub tapeCurve : Float → Float
+tapeCurve x = do
+  root ← sqrtOf (mulAdd x x 1f)
+  x ⊘ root
+
+unfoldable pub softSaturateCurve : Float → Float
+softSaturateCurve x = do
+  a ← absOf x
+  x ⊘ (1f ⊕ a)
+
+-- every other mode keeps x
+unfoldable pub curveOf : List Float → ℕ → Float → Float
+curveOf sk mode x =
+    caseOf mode
+    ((numberOf Valve ⇒ valveCurve x) ∷
+    (numberOf SoftClip ⇒ softClipCurve x) ∷
+    (numberOf HardClip ⇒ hardClipCurve x) ∷
+    (numberOf Diode1 ⇒ diode1Curve x) ∷
+    (numberOf Diode2 ⇒ diode2Curve x) ∷
+    (numberOf Fold ⇒ foldCurve x) ∷
+    (numberOf SineFold ⇒ sineFoldCurve sk x) ∷
+    (numberOf ZeroSquare ⇒ zeroSquareCurve x) ∷
+    (numberOf Asymmetric ⇒ asymmetricCurve x) ∷
+    (numberOf Rectify ⇒ rectifyCurve x) ∷
+    (numberOf SineShaper ⇒ sineShaperCurve sk x) ∷
+    (numberOf Pedal ⇒ pedalCurve x) ∷
+    (numberOf Tape ⇒ tapeCurve x) ∷
+    (numberOf SoftSaturate ⇒ softSaturateCurve x) ∷
+    [])
+    x

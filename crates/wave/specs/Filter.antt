@@ -1,0 +1,45 @@
+-- The filters of wave.rs. `sk` are the sine's numbers. Definitions only.
+use Prim.Native.Nat.{ℕ}
+use mathlib.Core.List.{List, [], _∷_}
+use lib.Ieee as Ieee
+use lib.Ieee.{Float}
+use Rattle.floats.specs.F32.{_⊕_, _⊖_, _⊗_, _⊘_, bits, 0f, 1f, 2f}
+use Rattle.floats.specs.Steps.{_>>=_}
+use Rattle.floats.specs.Exp2.{exp2Of}
+use Rattle.lanes.specs.Lane.{mulAdd, minOf}
+use Rattle.lanes.specs.Maths.{clampOf, tanOf}
+use Rattle.modes.specs.Mode.{numberOf, LowPass}
+use Rattle.modes.specs.Choice.{Case, _⇒_, caseOf}
+use Rattle.wave.specs.declared.filters.Svf.{Svf}
+use Rattle.wave.specs.declared.filters.Filtered.{Filtered}
+
+-- PI
+abbrev pub pi : Float
+pi = bits 0x4049_0fdb
+
+-- ((1.0 - a) * 11.0).exp2(), a.mul_add(12.0, -2.0).exp2()
+unfoldable pub cutoffHarmonic : ℕ → Float → Float
+cutoffHarmonic mode a =
+    caseOf mode
+    ((numberOf LowPass ⇒ exp2Of ((1f ⊖ a) ⊗ bits 0x4130_0000)) ∷ [])
+    (exp2Of (mulAdd a (bits 0x4140_0000) (Ieee.neg 2f)))
+
+-- SQRT_2 - 1.2 * character.clamp(0.0, 1.0)
+unfoldable pub dampingOf : Float → Float
+dampingOf character = do
+  kept ← clampOf character 0f 1f
+  bits 0x3fb5_04f3 ⊖ bits 0x3f99_999a ⊗ kept
+
+-- the cutoff is at most 0.45
+unfoldable pub filterOf : List Float → ℕ → Float → Float → Float → Float → Svf → Filtered
+filterOf sk mode harmonic increment k x state = do
+  cutoff ← minOf (harmonic ⊗ increment) (bits 0x3ee6_6666)
+  g ← tanOf sk (cutoff ⊗ pi)
+  a1 ← 1f ⊘ mulAdd g (g ⊕ k) 1f
+  a2 ← g ⊗ a1
+  a3 ← g ⊗ a2
+  v3 ← x ⊖ state .ic2
+  v1 ← mulAdd a1 (state .ic1) (a2 ⊗ v3)
+  v2 ← state .ic2 ⊕ mulAdd a2 (state .ic1) (a3 ⊗ v3)
+  y ← caseOf mode ((numberOf LowPass ⇒ v2) ∷ []) (x ⊖ k ⊗ v1 ⊖ v2)
+  record { y = y; state = record { ic1 = 2f ⊗ v1 ⊖ state .ic1; ic2 = 2f ⊗ v2 ⊖ state .ic2 } }

@@ -1,0 +1,5 @@
+pub mod Filter
+pub mod Curve
+pub mod Integral
+pub mod Smooth
+pub mod Slot

@@ -1,0 +1,22 @@
+// The wave stage of wave.rs: the filters and the distortions that bend the value after the read, and
+// what a slot does to one sample.
+pub mod curves;
+pub mod filters;
+pub mod integrals;
+pub mod slots;
+pub mod smoothing;
+
+pub use curves::curve;
+pub use filters::Filtered;
+pub use filters::Svf;
+pub use filters::cutoff_harmonic;
+pub use filters::damping;
+pub use filters::filter;
+pub use integrals::integral;
+pub use slots::Setting;
+pub use slots::level;
+pub use slots::setting_of;
+pub use slots::shape;
+pub use smoothing::distort;
+pub use smoothing::distort_smooth;
+pub use smoothing::drive;

@@ -1,0 +1,66 @@
+/* The voice card's shaper, for C. Link libcard.a (`rt staticlib card`).
+ *
+ * A buffer is a pointer and a count of its numbers. It holds rows of `lanes` numbers: a lane's number in a row lies at
+ * row * lanes + lane. An empty buffer may come as NULL with count 0. The library keeps no pointer past a call, allocates nothing and has
+ * no state of its own: buffers are the caller's before, during and after a call. Two buffers of one call must not overlap where one of
+ * them is written; if they do, the fault is the caller's and nothing is promised.
+ */
+#ifndef SHAPER_H
+#define SHAPER_H
+
+#include <stddef.h>
+#include <stdint.h>
+
+#ifdef __cplusplus
+extern "C" {
+#endif
+
+/* What a call answers. A call is turned down by the first of these lines that holds, for the arguments that it has; then `frames` is 0
+ * and every buffer is as it was:
+ *   2  the factor is not 1, 2, 4 or 8
+ *   3  the lane count is not 1..64, or the active lanes are more
+ *   4  more than 4,096 frames
+ *   6  a design's count is not 1..12 (of any of the three, whether the factor uses it or not)
+ *   7  a buffer that is read is too short
+ *   8  a buffer that is written is too short
+ * An accepted call answers number 0 and its frames. */
+struct shaper_answer {
+    uint32_t number;
+    uint32_t frames;
+};
+
+/* Decimates `buffer` in place by `factor`.
+ *
+ *   factor          1, 2, 4 or 8; 1 changes nothing
+ *   lanes           the numbers in a row, 1..64
+ *   active          lanes 0 to active - 1 are decimated, and no cell of another lane is touched; may be 0
+ *   frames          output rows, 0..4096
+ *   count0..count2  how many of its 12 coefficients design 0, 1 and 2 uses, 1..12 each
+ *   coefs           read, at least 36: 12 coefficients each of designs 0, 1 and 2. Design 0 is for the last stage, the nearest to the
+ *                   output; factor 4 uses designs 1 and 0, factor 8 designs 2, 1 and 0, in this order
+ *   buffer          written, at least frames * factor * lanes: frames * factor input rows, of which the first `frames` become the
+ *                   result. The rows past it hold what the work in place left there
+ *   state           written, at least 72 * lanes, zeros before the first call. It carries each lane's filters from one call to the
+ *                   next: block d (72 / 3 = 24 rows for design d) has in row 2 * i section i's last input and in row 2 * i + 1 its
+ *                   last output
+ *
+ * Cells past these lengths are not touched. A block may be decimated in any ranges of consecutive rows, with one state: the results and
+ * the state are those of one call. */
+struct shaper_answer shaper_decimate(
+    uint32_t factor, uint32_t lanes, uint32_t active, uint32_t frames, uint32_t count0, uint32_t count1, uint32_t count2,
+    const float *coefs, size_t coefs_length, float *buffer, size_t buffer_length, float *state, size_t state_length);
+
+/* The card's three designs: their coefficients as `coefs` takes them, and their counts. */
+static const float shaper_card_coefs[36] = {
+    0.034332752f, 0.12848179f, 0.26047325f, 0.40524498f, 0.5431863f, 0.66346705f, 0.7630483f, 0.8440243f, 0.9112316f, 0.9708499f,
+    0.0f, 0.0f,
+    0.036116753f, 0.13707772f, 0.28504226f, 0.4614878f, 0.65648645f, 0.87495035f, 0.0f, 0.0f, 0.0f, 0.0f, 0.0f, 0.0f,
+    0.035724986f, 0.13916272f, 0.30249274f, 0.5226143f, 0.81379634f, 0.0f, 0.0f, 0.0f, 0.0f, 0.0f, 0.0f, 0.0f};
+
+static const uint32_t shaper_card_counts[3] = {10, 6, 5};
+
+#ifdef __cplusplus
+}
+#endif
+
+#endif
