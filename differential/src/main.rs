@@ -1,13 +1,16 @@
 //! Compares the proved library with the oracle, bit for bit, NaN as one value, and prints "P of T";
 //! or measures its speed as a ratio to the oracle's.
 
+mod card;
+mod decimate;
 mod leaves;
 mod phases;
 mod probe;
 mod speed;
 mod tally;
+mod waves;
 
-const USAGE: &str = "usage: differential quick | leaves COUNT | phases COUNT | speed";
+const USAGE: &str = "usage: differential quick | leaves COUNT | phases COUNT | waves COUNT | decimate COUNT | speed";
 
 fn finish(tally: &tally::Tally) {
     println!("{} of {}", tally.passed, tally.total);
@@ -23,10 +26,14 @@ fn main() {
         ["quick"] => {
             let mut all = leaves::compare(200_000);
             all.add(&phases::compare(400_000));
+            all.add(&waves::compare(150_000));
+            all.add(&decimate::compare(2_000));
             finish(&all);
         }
         ["leaves", count] => finish(&leaves::compare(count.parse().expect(USAGE))),
         ["phases", count] => finish(&phases::compare(count.parse().expect(USAGE))),
+        ["waves", count] => finish(&waves::compare(count.parse().expect(USAGE))),
+        ["decimate", count] => finish(&decimate::compare(count.parse().expect(USAGE))),
         ["speed"] => speed::table(),
         _ => {
             eprintln!("{USAGE}");

@@ -8,7 +8,7 @@ use ruled::api::{self, curve as curves, lanes, phase as oracle};
 use ruled::osc::{self, Wave};
 use std::fmt::{Debug, Formatter};
 
-const GUARD: u32 = 0x1234_5678;
+pub const GUARD: u32 = 0x1234_5678;
 
 /// The floats that a rule may end at.
 const SPECIAL: [f32; 24] = [
@@ -39,7 +39,7 @@ const SPECIAL: [f32; 24] = [
 ];
 
 /// A float by the draw: special, from 0 to 1, near 1, or any pattern.
-fn float(g: &mut Generator) -> f32 {
+pub fn float(g: &mut Generator) -> f32 {
     let how = g.draw();
     let draw = g.draw();
     match how >> 30 {

@@ -50,6 +50,22 @@ pub struct LaneReads {
     pub count: usize,
 }
 
+/// A slot's two states.
+#[repr(C)]
+#[derive(Clone, Copy, Debug)]
+pub struct Svf {
+    pub ic1: f32,
+    pub ic2: f32,
+}
+
+/// A shaped sample and the state after it.
+#[repr(C)]
+#[derive(Clone, Copy, Debug)]
+pub struct Filtered {
+    pub state: Svf,
+    pub y: f32,
+}
+
 unsafe extern "C" {
     pub safe fn probe_abs(x: f32) -> f32;
     pub safe fn probe_sqrt(x: f32) -> f32;
@@ -85,6 +101,48 @@ unsafe extern "C" {
     pub safe fn probe_oversampled(mode: u32) -> u32;
     pub safe fn probe_distortion(mode: u32) -> u32;
     pub safe fn probe_stretch(mode: u32, amount: f32, curve: f32) -> Answer;
+    pub safe fn probe_wave_curve(numbers: Numbers, mode: u32, x: f32) -> f32;
+    pub safe fn probe_wave_integral(numbers: Numbers, mode: u32, x: f32) -> f32;
+    pub safe fn probe_distort(numbers: Numbers, mode: u32, a: f32, x: f32) -> f32;
+    pub safe fn probe_drive(mode: u32, a: f32) -> f32;
+    pub safe fn probe_cutoff_harmonic(mode: u32, a: f32) -> f32;
+    pub safe fn probe_damping(character: f32) -> f32;
+    pub safe fn probe_filter(
+        numbers: Numbers,
+        mode: u32,
+        harmonic: f32,
+        increment: f32,
+        k: f32,
+        x: f32,
+        state: Svf,
+    ) -> Filtered;
+    pub safe fn probe_distort_smooth(numbers: Numbers, mode: u32, a: f32, x: f32, state: Svf) -> Filtered;
+    pub safe fn probe_shape(
+        numbers: Numbers,
+        mode: u32,
+        a: f32,
+        character: f32,
+        sourced: u32,
+        source: f32,
+        increment: f32,
+        x: f32,
+        state: Svf,
+    ) -> Filtered;
+    fn probe_shape_run(
+        numbers: Numbers,
+        mode: u32,
+        a: f32,
+        character: f32,
+        sourced: u32,
+        source: f32,
+        increment: f32,
+        xs: *const f32,
+        xs_len: usize,
+        out: *mut f32,
+        out_len: usize,
+        state: *mut f32,
+        state_len: usize,
+    ) -> usize;
     fn probe_lookup(table: *const f32, len: usize, x: f32) -> f32;
     fn probe_powers_run(
         leaf: u32,
@@ -164,6 +222,46 @@ pub fn reads_run(curve: &[f32], cycle: &[f32], slots: Slots, half: f32, inner: f
             words.len(),
             out.as_mut_ptr(),
             out.len(),
+        )
+    }
+}
+
+/// A slot's mode and what it shapes every sample of a run with.
+#[derive(Clone, Copy)]
+pub struct WaveSlot {
+    pub mode: u32,
+    pub amount: f32,
+    pub character: f32,
+    /// `None` for a slot without a source.
+    pub source: Option<f32>,
+    pub increment: f32,
+}
+
+/// `x` shaped by the slot.
+pub fn shape(slot: &WaveSlot, x: f32, state: Svf) -> Filtered {
+    let sourced = u32::from(slot.source.is_some());
+    let source = slot.source.unwrap_or(f32::NAN);
+    probe_shape(NUMBERS, slot.mode, slot.amount, slot.character, sourced, source, slot.increment, x, state)
+}
+
+/// Each of `xs` shaped by the slot, its state in the first two cells of `state`.
+pub fn shape_run(slot: &WaveSlot, xs: &[f32], out: &mut [f32], state: &mut [f32]) -> usize {
+    // SAFETY: the pointers and counts are the slices', which do not overlap.
+    unsafe {
+        probe_shape_run(
+            NUMBERS,
+            slot.mode,
+            slot.amount,
+            slot.character,
+            u32::from(slot.source.is_some()),
+            slot.source.unwrap_or(f32::NAN),
+            slot.increment,
+            xs.as_ptr(),
+            xs.len(),
+            out.as_mut_ptr(),
+            out.len(),
+            state.as_mut_ptr(),
+            state.len(),
         )
     }
 }

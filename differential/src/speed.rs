@@ -1,9 +1,14 @@
-//! Each leaf's time as a ratio to the oracle's, and that of read lists, in one run: both behind a call
-//! that is not inlined, on the same inputs. The oracle is the copy with the added rules.
+//! Each leaf's time as a ratio to the oracle's, and that of read lists, of slots of the wave side and of
+//! decimations, in one run: both behind a call that is not inlined, on the same inputs. The oracle is the
+//! copy with the added rules.
 
-use crate::probe::{self, NUMBERS, Slots};
+use crate::card;
+use crate::probe::{self, NUMBERS, Slots, WaveSlot};
+use programs::decimations::{Shape, cells};
 use programs::{Generator, lookup_table, tame};
+use ruled::api::halfband;
 use ruled::api::phase::{self, Slot};
+use ruled::api::wave::{self, Pair};
 use ruled::api::{self, lanes as oracle};
 use ruled::osc::{self, LaneReads, Wave};
 use std::hint::black_box;
@@ -236,6 +241,88 @@ fn reads() {
     }
 }
 
+/// The oracle's loop over the samples: what its run does to each in a slot of the wave side. The mode is
+/// read anew for each, as the library does, so that nothing is taken out of the loop.
+#[inline(never)]
+fn oracle_shape(slot: &WaveSlot, xs: &[f32], out: &mut [f32], state: &mut [f32]) {
+    let mut pair = Pair { ic1: state[0], ic2: state[1] };
+    let (a, s) = (slot.amount, slot.source.unwrap_or(f32::NAN));
+    for (to, &x) in out.iter_mut().zip(xs) {
+        let mode = black_box(slot.mode);
+        (*to, pair) = match mode {
+            17 | 18 => {
+                let harmonic = wave::cutoff_harmonic(mode, a);
+                wave::filter(mode, harmonic, slot.increment, wave::damping(slot.character), x, pair)
+            }
+            58 => (x * (1.0 - a * 0.5 * (1.0 - s)), pair),
+            64 => (x * (1.0 - a + a * s), pair),
+            _ => wave::distort_smooth(mode, a, x, pair),
+        };
+    }
+    state.copy_from_slice(&[pair.ic1, pair.ic2]);
+}
+
+/// A sequence of samples through one slot: the sixteen filters and distortions, AM and Ring.
+fn shapes() {
+    let mut g = Generator(0x5eed);
+    let xs: Vec<f32> = (0..INPUTS).map(|_| (g.draw() >> 8) as f32 / 8_388_608.0 - 1.0).collect();
+    let (mut out, mut other) = (vec![0.0; INPUTS], vec![0.0; INPUTS]);
+    println!("samples through a slot of the wave side: ns a sample, the oracle's, the ratio");
+    for mode in (17..=32).chain([58, 64]) {
+        let slot = WaveSlot {
+            mode,
+            amount: 0.37,
+            character: 0.25,
+            source: Some(0.61),
+            increment: 0.004,
+        };
+        row(
+            &format!("{:?}", api::mode(mode)),
+            || {
+                black_box(probe::shape_run(&black_box(slot), black_box(&xs), &mut out, &mut [0.0; 2]));
+            },
+            || {
+                oracle_shape(&black_box(slot), black_box(&xs), &mut other, &mut [0.0; 2]);
+                black_box(&other);
+            },
+        );
+    }
+}
+
+/// Blocks of 256 frames with the card's designs, as many as make `INPUTS` frames, each on a copy of the
+/// same samples.
+fn decimations() {
+    let designs = halfband::designs();
+    let counts = designs.map(|d| d.count as u32);
+    let coefs: Vec<f32> = designs.iter().flat_map(|d| d.coefs).collect();
+    println!("decimation, all lanes active: ns an output frame, the oracle's, the ratio");
+    for factor in [2, 4, 8] {
+        for lanes in [1, 16, 64] {
+            let frames = 256;
+            let shape = Shape { factor, lanes, active: lanes, frames };
+            let [by, n, rows] = [factor, lanes, frames].map(|x| x as usize);
+            let samples = cells(&mut Generator(0x5eed), rows * by * n, false);
+            let (mut buffer, mut other) = (samples.clone(), samples.clone());
+            let (mut state, mut theirs) = (vec![0.0; 72 * n], vec![0.0; 72 * n]);
+            row(
+                &format!("by {factor}, lanes {lanes}"),
+                || {
+                    for _ in 0..INPUTS / rows {
+                        buffer.copy_from_slice(&samples);
+                        black_box(card::decimate(black_box(shape), counts, &coefs, black_box(&mut buffer), &mut state));
+                    }
+                },
+                || {
+                    for _ in 0..INPUTS / rows {
+                        other.copy_from_slice(&samples);
+                        halfband::process(black_box(&designs), by, n, n, rows, black_box(&mut other), &mut theirs);
+                    }
+                },
+            );
+        }
+    }
+}
+
 pub fn table() {
     for (what, is_tame) in [("floats near 1", true), ("any bit pattern", false)] {
         let all = inputs(is_tame);
@@ -246,4 +333,6 @@ pub fn table() {
         powers(&all.floats);
     }
     reads();
+    shapes();
+    decimations();
 }

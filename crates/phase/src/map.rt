@@ -233,7 +233,23 @@ pub fn apply(
     let n = list.count;
     let mut out = ReadList::empty(words[0]);
     out.weighted = list.weighted;
-    for i in 0..n {
+    if n == 0 {
+        return out;
+    }
+    // The first read stands apart: with `map` at two places the compiler keeps it a function, and
+    // does not work out every mode's numbers before a loop.
+    out = map(
+        powers,
+        numbers,
+        curve,
+        slot,
+        amount,
+        half,
+        words[0],
+        gains[0],
+        out,
+    );
+    for i in 1..n {
         out = map(
             powers,
             numbers,

@@ -2,3 +2,4 @@ pub mod Leaves
 pub mod Codes
 pub mod Runs
 pub mod Phases
+pub mod Waves

@@ -242,7 +242,7 @@ fn powers_leaf(powers: &[u32; 257], leaf: u32, x: f32) -> f32
     x
 }
 
-fn least(a: usize, b: usize) -> usize
+pub fn least(a: usize, b: usize) -> usize
     ensures { λ r. ⌜ r ≡ min a b ⌝ }
 {
     if a < b { a } else { b }

@@ -3,3 +3,4 @@
 pub mod fact;
 pub mod leaf;
 pub mod phases;
+pub mod waves;

@@ -1,5 +1,6 @@
 // The library's answer to an operation of the vectors, on bit patterns.
 use crate::phases::phase_answer;
+use crate::waves::wave_answer;
 use floats::abs;
 use floats::cast_word;
 use floats::exp2;
@@ -108,6 +109,7 @@ pub fn answer(powers: &[u32; 257], table: &[f32; 1025], op: u32, a: u32, b: u32,
         0x00..=0x02 | 0x10 | 0x13 => pattern(several(op, float(a), float(b), float(c))),
         0x08 | 0x0b..=0x0e | 0x1d..=0x1f => words(op, a, b, c),
         0x20..=0x28 => phase_answer(table, op, a, b, c),
+        0x30..=0x35 => wave_answer(powers, op, a, b, c),
         0x07 | 0x0f | 0x18..=0x19 | 0x1b => pattern(tables(powers, table, op, float(a))),
         _ => pattern(unary(op, float(a))),
     }

@@ -1,17 +1,21 @@
 // Replays the oracle's stored answers (stdin, a line each) and prints how many of them the library
-// gives: "P of T". The lines are those of `leaf_vectors` and then of `phase_vectors` of
-// oracle/programs, which has their format.
+// gives: "P of T". The lines are those of `leaf_vectors`, `phase_vectors`,
+// `wave_vectors` and `decimate_vectors` of oracle/programs, which has their format.
 mod answer;
+mod decimations;
 mod phases;
 mod random;
 mod text;
+mod waves;
 
 use answer::answer;
+use decimations::DecimateRun;
 use floats::POWERS;
 use libc::STDIN_FILENO;
 use libc::STDOUT_FILENO;
 use phases::ReadsRun;
 use random::Run;
+use waves::WaveRun;
 ghost use mathlib.Core.Path.{_≡_};
 ghost use Rattle.floats.specs.Exp2.{entries};
 
@@ -29,7 +33,22 @@ struct Hashed {
     hash: u64,
 }
 
-// A run of read lists has two modes beside its count.
+// One call of the decimator.
+fn decimated(a: u32, b: u32) -> Hashed {
+    let run = DecimateRun {
+        factor: b / 0x100_0000,
+        lanes: b / 0x1_0000 % 0x100,
+        active: b / 0x100 % 0x100,
+        frames: b % 0x100,
+        seed: a,
+    };
+    Hashed {
+        count: 1,
+        hash: decimations::decimate_hash(run),
+    }
+}
+
+// A run of read lists has two modes beside its count, one of a sequence of samples a mode and a flag.
 fn ran(powers: &[u32; 257], table: &[f32; 1025], op: u32, a: u32, b: u32) -> Hashed
     requires { ⌜ now powers ≡ entries ⌝ }
 {
@@ -44,6 +63,19 @@ fn ran(powers: &[u32; 257], table: &[f32; 1025], op: u32, a: u32, b: u32) -> Has
             count: run.count as u64,
             hash: phases::reads_hash(powers, table, run),
         }
+    } else if op == 0x36 {
+        let run = WaveRun {
+            slot: b / 0x100_0000,
+            mode: b / 0x1_0000 % 0x100,
+            seed: a,
+            count: b % 0x1_0000,
+        };
+        Hashed {
+            count: run.count as u64,
+            hash: waves::wave_hash(powers, run),
+        }
+    } else if op == 0x40 {
+        decimated(a, b)
     } else {
         let run = Run {
             op,

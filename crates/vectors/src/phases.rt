@@ -202,7 +202,7 @@ fn drawn(s: u32) -> Draws {
 }
 
 // 0, 1/2, 1, or a number from 0 to 1.
-fn fraction(draw: u32) -> f32 {
+pub fn fraction(draw: u32) -> f32 {
     match draw % 8 {
         0 => 0.0,
         1 => 0.5,
@@ -249,7 +249,7 @@ fn special(draw: u32) -> f32 {
 }
 
 // A float of a case, tame with an even seed; otherwise by `how` tame, special, or any pattern.
-fn chosen(seed: u32, how: u32, draw: u32, tame: f32) -> f32 {
+pub fn chosen(seed: u32, how: u32, draw: u32, tame: f32) -> f32 {
     if seed % 2 == 0 {
         return tame;
     }

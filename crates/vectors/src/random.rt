@@ -39,7 +39,7 @@ fn tamed(seed: u32, w: u32) -> u32 {
 // Whether the operation's first, and its second and third input are words and no floats.
 fn first_is_word(op: u32) -> bool {
     match op {
-        0x0b | 0x0d | 0x1e..=0x1f | 0x27..=0x28 => true,
+        0x0b | 0x0d | 0x1e..=0x1f | 0x27..=0x28 | 0x30..=0x34 => true,
         _ => false,
     }
 }

@@ -1,7 +1,9 @@
 //! What the vector programs share: the generator, the hash, the leaves
-//! by operation code, and the cases of the phase side.
+//! by operation code, and the cases of the phase side and the decimator.
 
+pub mod decimations;
 pub mod phases;
+pub mod waves;
 
 use ruled::api::lanes;
 

@@ -98,7 +98,7 @@ pub struct Case {
 }
 
 /// 0, 1/2, 1, or a number from 0 to 1.
-fn fraction(draw: u32) -> u32 {
+pub(crate) fn fraction(draw: u32) -> u32 {
     match draw & 7 {
         0 => 0x0000_0000,
         1 => 0x3f00_0000,
@@ -144,7 +144,7 @@ fn special(draw: u32) -> u32 {
 }
 
 /// A wild case's float: by `how` a tame one, a special one, or any pattern.
-fn wild(how: u32, draw: u32, tame: u32) -> u32 {
+pub(crate) fn wild(how: u32, draw: u32, tame: u32) -> u32 {
     match how & 3 {
         0 => tame,
         1 => special(draw),

@@ -1,7 +1,8 @@
--- `phase::apply` meets its contract: the list so far is the definition at the counter. Assumes nothing.
-use mathlib.Core.Path.{_≡_, refl}
+-- `phase::apply` meets its contract: what the list is after the first read, it is the definition at the counter. Assumes nothing.
+use mathlib.Core.Path.{_≡_, refl, sym}
 use Prim.Native.Nat.{_≤_, _-_}
 use native.Mathlib.Numerals.{add-one}
+use Rattle.phase.specs.declared.reads.ReadList.{ReadList}
 use Rattle.phase.specs.Map.{mapped, emptied, applyOf}
 use Rattle.phase.specs.Reads.{emptyOf}
 use borrow.Author.Needs.{needs}
@@ -10,7 +11,7 @@ use Rattle.phase.proofs.map.apply.Statement.{statement}
 use Rattle.phase.proofs.map.apply.Tie as tie
 
 abbrev Inv-loop : tie.InvT-loop
-Inv-loop powers numbers curve slot amount half words gains n out₀ i₀ out i = (i ≤ n) × (out ≡ mapped (numbers .sin) (numbers .atan) curve slot amount half words gains out₀ i)
+Inv-loop powers numbers curve slot amount half words gains n out₀ i₀ out i = (1 ≤ i) × (i ≤ n) × ((start : ReadList) → out₀ ≡ mapped (numbers .sin) (numbers .atan) curve slot amount half words gains start 1 → out ≡ mapped (numbers .sin) (numbers .atan) curve slot amount half words gains start i)
 
 abbrev μ-loop : tie.MeasureT-loop
 μ-loop powers numbers curve slot amount half words gains n out₀ i₀ out i = n - i
@@ -21,24 +22,36 @@ array-read-empty c = search needs
 empty-requires : tie.Need-empty-requires Inv-loop μ-loop
 empty-requires c κs = search needs
 
-loop-holds : tie.Need-loop-holds Inv-loop μ-loop
-unfolding mapped
-loop-holds c = (omega arith, refl)
-
-mul-map : tie.Need-mul-map Inv-loop μ-loop
-mul-map c = search needs
+returns : tie.Need-returns Inv-loop μ-loop
+unfolding applyOf emptied emptyOf mapped
+returns c = rw (c .before .empty .ensures, c .if1 .taken)
 
 array-read-map : tie.Need-array-read-map Inv-loop μ-loop
 array-read-map c = search needs
-
-mul-map-2 : tie.Need-mul-map-2 Inv-loop μ-loop
-mul-map-2 c = search needs
 
 array-read-map-2 : tie.Need-array-read-map-2 Inv-loop μ-loop
 array-read-map-2 c = search needs
 
 map-requires : tie.Need-map-requires Inv-loop μ-loop
 map-requires c κs = search needs
+
+loop-holds : tie.Need-loop-holds Inv-loop μ-loop
+loop-holds c = (omega arith, omega arith, λ start e. e)
+
+mul-map : tie.Need-mul-map Inv-loop μ-loop
+mul-map c = search needs
+
+array-read-map-3 : tie.Need-array-read-map-3 Inv-loop μ-loop
+array-read-map-3 c = search needs
+
+mul-map-2 : tie.Need-mul-map-2 Inv-loop μ-loop
+mul-map-2 c = search needs
+
+array-read-map-4 : tie.Need-array-read-map-4 Inv-loop μ-loop
+array-read-map-4 c = search needs
+
+map-requires-2 : tie.Need-map-requires-2 Inv-loop μ-loop
+map-requires-2 c κs = search needs
 
 add-i : tie.Need-add-i Inv-loop μ-loop
 add-i c = search needs
@@ -48,13 +61,11 @@ loop-less c = search needs
 
 loop-again : tie.Need-loop-again Inv-loop μ-loop
 unfolding mapped
-loop-again c = (omega arith, rw (add-one, ← c .before .before .loop .inv .1) (c .map .ensures))
+loop-again c = (omega arith, omega arith, λ start e. rw (add-one, ← c .before .before .loop .inv .2 start e) (c .map2 .ensures))
 
-returns : tie.Need-returns Inv-loop μ-loop
-unfolding applyOf emptied emptyOf
-returns c =
-    let e : c .before .loop .i ≡ c .before .before .before .before .before .before .args .list .count = omega arith in
-    rw (c .before .before .empty .ensures, e) at (c .before .loop .inv .1)
+returns-2 : tie.Need-returns-2 Inv-loop μ-loop
+unfolding applyOf emptied emptyOf mapped
+returns-2 c = let e : c .before .loop .i ≡ c .before .before .before .before .before .before .before .before .args .list .count = omega arith in rw (← e) (c .before .loop .inv .2 _ (rw (c .before .before .map .ensures, c .before .before .before .before .empty .ensures)))
 
 pub apply-spec : {M : Type 1} → statement M
 apply-spec =
@@ -64,13 +75,17 @@ apply-spec =
     μ-loop
     array-read-empty
     empty-requires
-    loop-holds
-    mul-map
+    returns
     array-read-map
-    mul-map-2
     array-read-map-2
     map-requires
+    loop-holds
+    mul-map
+    array-read-map-3
+    mul-map-2
+    array-read-map-4
+    map-requires-2
     add-i
     loop-less
     loop-again
-    returns)
+    returns-2)
