@@ -28,7 +28,7 @@ fn best(mut round: impl FnMut()) -> f64 {
     least * 1e9 / INPUTS as f64
 }
 
-/// Both sides in turn, so that neither has the quieter machine.
+/// Both sides in turn, so that neither has the quieter time.
 fn row(name: &str, mut got: impl FnMut(), mut want: impl FnMut()) {
     let (g1, w1) = (best(&mut got), best(&mut want));
     let (g2, w2) = (best(&mut got), best(&mut want));

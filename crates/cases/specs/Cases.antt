@@ -1,4 +1,5 @@
--- Document 01's P cases: what the definitions give, and what document 01 says. A float is given by its bit pattern. Definitions only.
+-- Document 01's P cases: what the definitions give, and what document 01 says. A float is given by its bit pattern. P10 and
+-- P11, on amounts and sources, come with the crate that has those. Definitions only.
 use mathlib.Core.Path.{_≡_}
 use mathlib.Core.Bool.{false}
 use mathlib.Core.List.{List, [], _∷_}

@@ -1,1 +1,1 @@
-// Document 01's P cases, in one theorem (specs/Cases.antt, proofs/Hold.antt). There is no code here.
+// Document 01's P cases, in one theorem (specs/Cases.antt, proofs/AllHold.antt). There is no code here.

@@ -1,4 +1,4 @@
--- 2 ^ x of an f32, by the table rule of docs/01-scope.md, "Added by design", letter by letter. Definitions only.
+-- 2 ^ x of an f32, by the table rule of document 01, "Added by design", letter by letter. Definitions only.
 -- N, the floor of x * 65,536, and i, the floor of N / 65,536, can be negative. Natural numbers stand for them here: n = N + 128 * 65,536,
 -- which is above 0 for an x from -126 up, and i + 128. j and r are the same for n as for N.
 use Prim.Native.Nat.{ℕ, _+_, _-_, _*_, _/_, _%_, _^_, _≤_, _<_}

@@ -1,6 +1,6 @@
 // Casts between floats and integers, as Rust's `as` makes them: a float's saturate, and NaN gives 0;
-// an integer gives the nearest float, ties to even. They go by the bit pattern and take no branch on
-// the number.
+// an integer gives the nearest float, ties to even. They go by the bit pattern; where they choose,
+// both values are at hand, so that the compiler need not branch.
 ghost use mathlib.Core.Path.{_≡_};
 ghost use Prim.Native.Nat.{_*_, _/_, _^_, _<_, min};
 ghost use lib.IntN.{pos};

@@ -272,7 +272,7 @@ pub const POWERS: [u32; 257] = [
     16777216,
 ];
 
-// The table, to keep and to lend.
+// The table, to keep and to lend. Its contract holds the constant to the definition.
 pub fn power_table() -> [u32; 257]
     ensures { λ r. ⌜ r ≡ entries ⌝ }
 {

@@ -16,12 +16,12 @@ use Rattle.halfband.specs.declared.design.Designs.{Designs}
 use Rattle.halfband.specs.declared.cascade.Answer.{Answer}
 use Rattle.halfband.specs.Halfband.{View, view, views}
 use Rattle.halfband.specs.Floats.{floats, designOf}
-use Rattle.halfband.specs.Decimated.{numberOf, Decimated}
+use Rattle.halfband.specs.Decimated.{callNumber, Decimated}
 use Rattle.halfband.proofs.RefusalLaws.{good-lanes, Passed, accepted, passed}
 
 module _ (ds : Designs) (coefs factor n active f : ℕ) (buf st : List Float) where
   abbrev Number : ℕ
-  Number = numberOf ds coefs factor n active f (length buf) (length st)
+  Number = callNumber ds coefs factor n active f (length buf) (length st)
 
   -- a call that is turned down
   pub turned-down : (number : ℕ) → number ≡ Number → (number ≡ 0 → ⊥)

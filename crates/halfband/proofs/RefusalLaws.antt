@@ -11,7 +11,7 @@ use Rattle.halfband.specs.declared.design.Designs.{Designs}
 use Rattle.halfband.specs.Floats.{designOf}
 use Rattle.halfband.specs.Refusal.{firstOf, badFactor, badLanes, badFrames, badCount, badCounts, shortCoefs, shortRows, shortState, refusal, stagesOf}
 use Rattle.halfband.specs.Promises.{Taken}
-use Rattle.halfband.specs.Decimated.{numberOf}
+use Rattle.halfband.specs.Decimated.{callNumber}
 
 -- ---- any table
 
@@ -91,11 +91,11 @@ pub record Passed (ds : Designs) (coefs factor n active f buffer state : ℕ) : 
   pub cells : shortState n state ≡ false
 
 module _ (ds : Designs) (coefs factor n active f buffer state : ℕ) where
-  pub passed : Passed ds coefs factor n active f buffer state → numberOf ds coefs factor n active f buffer state ≡ 0
+  pub passed : Passed ds coefs factor n active f buffer state → callNumber ds coefs factor n active f buffer state ≡ 0
   unfolding refusal firstOf
   passed p = rw (p .factors, p .lanes, p .frames, p .counts, p .read, p .rows, p .cells)
 
-  pub accepted : numberOf ds coefs factor n active f buffer state ≡ 0 → Passed ds coefs factor n active f buffer state
+  pub accepted : callNumber ds coefs factor n active f buffer state ≡ 0 → Passed ds coefs factor n active f buffer state
   unfolding refusal
   accepted e =
       let p2 = first-passed (badFactor factor) 1 _ e in
@@ -116,7 +116,7 @@ module _ (ds : Designs) (coefs factor n active f buffer state : ℕ) where
       }
 
   -- what the calls for its lanes ask for
-  pub taken-of : numberOf ds coefs factor n active f buffer state ≡ 0 → Taken ds (stagesOf factor) f n buffer state × (active ≤ n)
+  pub taken-of : callNumber ds coefs factor n active f buffer state ≡ 0 → Taken ds (stagesOf factor) f n buffer state × (active ≤ n)
   taken-of e =
       let p = accepted e in
       let factors = good-factor factor (p .factors) in

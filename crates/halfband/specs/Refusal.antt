@@ -1,5 +1,5 @@
--- Document 01's table of refusals ("Turned down"): a test for each line, and the number of a decimation. Other calls have the same
--- tests for the arguments that they share. Definitions only.
+-- Document 01's table of refusals ("Turned down"): the tests of the lines that a decimation has, for its arguments, and its number. Other
+-- calls have the same tests for the arguments that they share. Definitions only.
 use mathlib.Core.Bool.{Bool, cond, not, _||_}
 use mathlib.Core.List.{List, [], _∷_}
 use Prim.Native.Nat.{ℕ, _*_}

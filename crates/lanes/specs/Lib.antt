@@ -1,3 +1,4 @@
 pub mod Lane
 pub mod Maths
 pub mod Word
+pub mod Numbers

@@ -19,6 +19,7 @@ pub use maths::exp;
 pub use maths::ln;
 pub use maths::ln_cosh;
 pub use maths::pick;
+pub use maths::rust_numbers;
 pub use maths::sign;
 pub use maths::sin_cycles;
 pub use maths::smoothstep;

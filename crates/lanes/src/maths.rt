@@ -13,6 +13,7 @@ ghost use lib.ListN.{getD};
 ghost use lib.Ieee.{nan};
 ghost use Rattle.floats.specs.Exp2.{entries};
 ghost use Rattle.lanes.specs.Maths.{pickOf, aboveOf, signOf, clampOf, smoothstepOf, horner, sinCycles, cosCycles, halfOf, atanOf, tanhOf, expOf, lnSeries, lnOf, lnCosh, tanOf};
+ghost use Rattle.lanes.specs.Numbers.{rustNumbers};
 
 const TAU: f32 = 6.2831855;
 
@@ -46,6 +47,16 @@ pub const ATAN: [f32; 8] = [
     1.0 / 13.0,
     -1.0 / 15.0,
 ];
+
+// The two together.
+pub fn rust_numbers() -> Numbers
+    ensures { λ r. ⌜ r ≡ rustNumbers ⌝ }
+{
+    Numbers {
+        sin: SIN,
+        atan: ATAN,
+    }
+}
 
 // `b` where `mask` is 1, `a` where it's 0. It is arithmetic and no choice.
 pub fn pick(mask: f32, a: f32, b: f32) -> f32

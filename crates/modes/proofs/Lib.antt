@@ -1,5 +1,4 @@
 pub mod Ranges
 pub mod Laws
 pub mod Arms
-pub mod Totals
 pub mod Choice

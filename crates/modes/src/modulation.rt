@@ -1,4 +1,4 @@
-// What a mode reads from another oscillator, and what it does with it.
+// The source that a mode reads, and what it does with it.
 ghost use mathlib.Core.Path.{_≡_};
 ghost use Rattle.modes.specs.Table.{sourceOf, fmTypeOf, modulatedOf};
 ghost use Rattle.modes.specs.Says.{sourceSays, fmTypeSays, modulatedSays};

@@ -30,7 +30,7 @@ pub fn stage(mode: u32) -> StageFact
     }
 }
 
-// Whether the oscillator renders it oversampled: the modes with edges and the distortions.
+// Whether the oscillator renders it oversampled: all but Off, OddEven and the filters.
 pub fn oversampled(mode: u32) -> FlagFact
     ensures { λ r. ⌜ flagSays r ≡ oversampledOf mode ⌝ }
 {

@@ -43,11 +43,11 @@ edgeStep h x = do
 
 -- the sum from left to right
 unfoldable pub smoothBox : Float → Float → Float → Float
-smoothBox v length h = do
-  rise ← edgeStep h (v ⊕ length)
-  fall ← edgeStep h (v ⊖ length)
-  next ← edgeStep h (v ⊕ length ⊖ 1f)
-  last ← edgeStep h (v ⊖ length ⊕ 1f)
+smoothBox v halfLength h = do
+  rise ← edgeStep h (v ⊕ halfLength)
+  fall ← edgeStep h (v ⊖ halfLength)
+  next ← edgeStep h (v ⊕ halfLength ⊖ 1f)
+  last ← edgeStep h (v ⊖ halfLength ⊕ 1f)
   clampOf (rise ⊖ fall ⊕ next ⊕ 1f ⊖ last) 0f 1f
 
 unfoldable pub leanOffset : List Float → List Float → Float → Float → Float

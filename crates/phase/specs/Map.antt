@@ -1,7 +1,6 @@
 -- The arms of `map` of phase.rs, and `apply` and `shift`. `sk` and `ak` are the sine and arctangent numbers, `table` the lent curve,
 -- h the crossfade's half width. Definitions only.
 use Prim.Native.Nat.{ℕ, zero, suc, _^_, max}
-use mathlib.Core.Bool.{Bool}
 use mathlib.Core.List.{List, [], _∷_}
 use lib.ListN.{getD}
 use lib.Ieee as Ieee
@@ -73,10 +72,10 @@ pulseWidthMap a h word gain out = do
 -- Mode::Flip
 unfoldable pub flipMap : Float → Float → ℕ → Float → ReadList → ReadList
 flipMap a h word gain out = do
-  length ← a ⊗ half
+  halfLength ← a ⊗ half
   u ← unitOf word
-  v ← wrapOf (u ⊖ (1f ⊖ length))
-  inverted ← smoothBox v length h
+  v ← wrapOf (u ⊖ (1f ⊖ halfLength))
+  inverted ← smoothBox v halfLength h
   out₁ ← weightedOf out
   pushOf out₁ word (gain ⊗ (1f ⊖ 2f ⊗ inverted))
 

@@ -1,6 +1,6 @@
 -- Read lists: `ReadList` of phase.rs and `LaneReads` of osc/mod.rs. Definitions only.
 use Prim.Native.Nat.{ℕ, zero, suc, _+_, _-_, _/_, _^_}
-use mathlib.Core.Bool.{Bool, true, false, cond}
+use mathlib.Core.Bool.{true, false, cond}
 use mathlib.Core.List.{List}
 use lib.Dec.{ltb, eqb}
 use lib.ListN.{getD, set, replicate}

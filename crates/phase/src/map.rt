@@ -109,9 +109,9 @@ fn pulse_width(a: f32, half: f32, word: u32, gain: f32, out: ReadList) -> ReadLi
 fn flip(a: f32, half: f32, word: u32, gain: f32, out: ReadList) -> ReadList
     ensures { λ r. ⌜ r ≡ flipMap a half word gain out ⌝ }
 {
-    let length = a * 0.5;
-    let v = wrap(unit(word) - (1.0 - length));
-    let inverted = smooth_box(v, length, half);
+    let half_length = a * 0.5;
+    let v = wrap(unit(word) - (1.0 - half_length));
+    let inverted = smooth_box(v, half_length, half);
     out.weighted().push(word, gain * (1.0 - 2.0 * inverted))
 }
 

@@ -35,8 +35,8 @@ abbrev pub within : Float → Float → Float
 within knee x = clampOf x (Ieee.neg knee) knee
 
 -- 1.5, FRAC_PI_2
-abbrev pub oneHalf : Float
-oneHalf = bits 0x3fc0_0000
+abbrev pub threeHalves : Float
+threeHalves = bits 0x3fc0_0000
 
 abbrev pub fracPi2 : Float
 fracPi2 = bits 0x3fc9_0fdb
@@ -48,7 +48,7 @@ valveCurve x = do
 
 unfoldable pub softClipCurve : Float → Float
 softClipCurve x = do
-  z ← within oneHalf x
+  z ← within threeHalves x
   z ⊖ z ⊗ z ⊗ z ⊗ (4f ⊘ 27f)
 
 unfoldable pub hardClipCurve : Float → Float

@@ -13,7 +13,7 @@ use Rattle.lanes.specs.Maths.{cosCycles, expOf, lnOf, lnCosh}
 use Rattle.modes.specs.Mode.{numberOf, Valve, SoftClip, HardClip, Diode1, Diode2, Fold, SineFold, ZeroSquare, Asymmetric, Rectify, SineShaper, Pedal, Tape, SoftSaturate}
 use Rattle.modes.specs.Choice.{Case, _⇒_, caseOf}
 use Rattle.wave.specs.Filter.{pi}
-use Rattle.wave.specs.Curve.{valveTanhBias, valveBias, valveScale, 4f, 27f, within, oneHalf, fracPi2}
+use Rattle.wave.specs.Curve.{valveTanhBias, valveBias, valveScale, 4f, 27f, within, threeHalves, fracPi2}
 
 -- VALVE_LN_COSH_BIAS
 abbrev pub valveLnCoshBias : Float
@@ -34,7 +34,7 @@ valveIntegral x = do
 
 unfoldable pub softClipIntegral : Float → Float
 softClipIntegral x = do
-  z ← within oneHalf x
+  z ← within threeHalves x
   z2 ← z ⊗ z
   past ← beyondOf x z
   z2 ⊗ half ⊖ z2 ⊗ z2 ⊗ (1f ⊘ 27f) ⊕ past

@@ -76,7 +76,7 @@ fn driven_by(powers: &[u32; 257], mode: u32, a: f32, x: f32) -> f32
     }
 }
 
-// 1 where two inputs differ by more than 1 % of their size, else 0. The integrals' rounding grows with
+// 1 where two inputs differ by 1 % of their size or more, the size counting as 1 at least, else 0. The integrals' rounding grows with
 // their size, so the closeness allowed does too.
 fn apart_from(driven: f32, last: f32) -> f32
     ensures { λ r. ⌜ r ≡ apartOf driven last ⌝ }

@@ -4,7 +4,7 @@ use denote.Ref.{now}
 use borrow.Author.Needs.{needs}
 use borrow.Author.Tests.{ltb-false}
 use Rattle.halfband.specs.Floats.{designsOf}
-use Rattle.halfband.specs.Decimated.{numberOf}
+use Rattle.halfband.specs.Decimated.{callNumber}
 use Rattle.halfband.proofs.RefusalLaws.{accepted}
 use Rattle.halfband.proofs.DecimatedLaws.{turned-down, of-slice}
 use Rattle.card.proofs.shaper_decimate.Statement.{statement}
