@@ -2,7 +2,7 @@
 //! refusals.
 
 use crate::card::{self, Answer};
-use crate::tally::Tally;
+use crate::tally::{self, Tally};
 use programs::decimations::{Shape, cells, designs};
 use programs::{Generator, pattern};
 use ruled::api::halfband::{self as oracle, Design};
@@ -359,19 +359,14 @@ fn ends(count: u64, tally: &mut Tally) {
 /// `count` calls and as many about refusals' ends, an eighth as many blocks in ranges, and every cause
 /// of a refusal.
 pub fn compare(count: u64) -> Tally {
-    let mut all = Tally::default();
-    let parts: [(&str, fn(u64, &mut Tally)); 5] = [
-        ("decimated buffers", calls),
-        ("decimated in ranges", cuts),
-        ("decimation's limits", limits),
-        ("causes of a refusal", refusals),
-        ("ends of the ranges", ends),
-    ];
-    for (name, part) in parts {
-        let mut tally = Tally::default();
-        part(count, &mut tally);
-        println!("{name}: {} of {}", tally.passed, tally.total);
-        all.add(&tally);
-    }
-    all
+    tally::parts(
+        count,
+        &[
+            ("decimated buffers", calls),
+            ("decimated in ranges", cuts),
+            ("decimation's limits", limits),
+            ("causes of a refusal", refusals),
+            ("ends of the ranges", ends),
+        ],
+    )
 }

@@ -1,7 +1,7 @@
 //! The leaves on bit patterns spread over all of 2^32, against the oracle.
 
 use crate::probe::{self, NUMBERS};
-use crate::tally::Tally;
+use crate::tally::{self, Tally};
 use programs::{Generator, lookup_table};
 use ruled::api::lanes as oracle;
 
@@ -108,18 +108,13 @@ fn several(count: u64, tally: &mut Tally) {
 
 /// About `count` patterns for each leaf.
 pub fn compare(count: u64) -> Tally {
-    let mut all = Tally::default();
-    let parts: [(&str, fn(u64, &mut Tally)); 4] = [
-        ("unary leaves", unary),
-        ("leaves of the table of powers", powers),
-        ("casts and words", casts),
-        ("leaves of several inputs", several),
-    ];
-    for (name, part) in parts {
-        let mut tally = Tally::default();
-        part(count, &mut tally);
-        println!("{name}: {} of {}", tally.passed, tally.total);
-        all.add(&tally);
-    }
-    all
+    tally::parts(
+        count,
+        &[
+            ("unary leaves", unary),
+            ("leaves of the table of powers", powers),
+            ("casts and words", casts),
+            ("leaves of several inputs", several),
+        ],
+    )
 }

@@ -1,7 +1,7 @@
 //! The phase side against the oracle: mode facts, the curve, stretch, and read lists of two slots.
 
 use crate::probe::{self, LaneReads, Slots};
-use crate::tally::Tally;
+use crate::tally::{self, Tally};
 use programs::phases::{Case, REFUSED, slope_table};
 use programs::{Generator, pattern, tame};
 use ruled::api::{self, curve as curves, lanes, phase as oracle};
@@ -278,19 +278,14 @@ fn sums(count: u64, tally: &mut Tally) {
 
 /// About `count` read lists and as many of each other part as its inputs ask for.
 pub fn compare(count: u64) -> Tally {
-    let mut all = Tally::default();
-    let parts: [(&str, fn(u64, &mut Tally)); 5] = [
-        ("mode facts", facts),
-        ("curve", curve),
-        ("stretch", stretch),
-        ("read lists of two slots", apply),
-        ("sums of reads", sums),
-    ];
-    for (name, part) in parts {
-        let mut tally = Tally::default();
-        part(count, &mut tally);
-        println!("{name}: {} of {}", tally.passed, tally.total);
-        all.add(&tally);
-    }
-    all
+    tally::parts(
+        count,
+        &[
+            ("mode facts", facts),
+            ("curve", curve),
+            ("stretch", stretch),
+            ("read lists of two slots", apply),
+            ("sums of reads", sums),
+        ],
+    )
 }

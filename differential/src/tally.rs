@@ -44,3 +44,18 @@ impl Tally {
         self.total += other.total;
     }
 }
+
+/// A part of a comparison: its name and what it runs.
+pub type Part = (&'static str, fn(u64, &mut Tally));
+
+/// Runs each part at `count`, prints its line, and adds up.
+pub fn parts(count: u64, parts: &[Part]) -> Tally {
+    let mut all = Tally::default();
+    for (name, part) in parts {
+        let mut tally = Tally::default();
+        part(count, &mut tally);
+        println!("{name}: {} of {}", tally.passed, tally.total);
+        all.add(&tally);
+    }
+    all
+}

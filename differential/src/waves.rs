@@ -3,7 +3,7 @@
 
 use crate::phases::{GUARD, float};
 use crate::probe::{self, Filtered, NUMBERS, Svf, WaveSlot};
-use crate::tally::Tally;
+use crate::tally::{self, Tally};
 use programs::waves::Case;
 use programs::{Generator, pattern};
 use ruled::api::wave::{self as oracle, Pair};
@@ -294,19 +294,14 @@ fn runs(count: u64, tally: &mut Tally) {
 
 /// About `count` cases of each part.
 pub fn compare(count: u64) -> Tally {
-    let mut all = Tally::default();
-    let parts: [(&str, fn(u64, &mut Tally)); 5] = [
-        ("curves, integrals, drives", leaves),
-        ("filters", filter),
-        ("distortions", distort_smooth),
-        ("slots", slots),
-        ("runs of a slot", runs),
-    ];
-    for (name, part) in parts {
-        let mut tally = Tally::default();
-        part(count, &mut tally);
-        println!("{name}: {} of {}", tally.passed, tally.total);
-        all.add(&tally);
-    }
-    all
+    tally::parts(
+        count,
+        &[
+            ("curves, integrals, drives", leaves),
+            ("filters", filter),
+            ("distortions", distort_smooth),
+            ("slots", slots),
+            ("runs of a slot", runs),
+        ],
+    )
 }

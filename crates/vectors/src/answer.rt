@@ -10,9 +10,6 @@ use floats::nearest_u32;
 use floats::sign_bit;
 use floats::split;
 use floats::sqrt;
-use lanes::ATAN;
-use lanes::Numbers;
-use lanes::SIN;
 ghost use mathlib.Core.Path.{_≡_};
 ghost use Rattle.floats.specs.Exp2.{entries};
 
@@ -45,10 +42,7 @@ fn tables(powers: &[u32; 257], table: &[f32; 1025], op: u32, x: f32) -> f32
 
 // Operations of one float and of the sine and arctangent numbers.
 fn angles(op: u32, x: f32) -> f32 {
-    let numbers = Numbers {
-        sin: SIN,
-        atan: ATAN,
-    };
+    let numbers = lanes::rust_numbers();
     match op {
         0x15 => lanes::sin_cycles(numbers, x),
         0x16 => lanes::cos_cycles(numbers, x),

@@ -5,9 +5,6 @@ use crate::answer::pattern;
 use crate::random::folded;
 use crate::random::next;
 use floats::nearest_u32;
-use lanes::ATAN;
-use lanes::Numbers;
-use lanes::SIN;
 use modes::FlagFact;
 use modes::FmTypeFact;
 use modes::ModulatedFact;
@@ -311,10 +308,7 @@ fn case_of(seed: u32, d: Draws) -> Case {
 fn reads(powers: &[u32; 257], table: &[f32; 1025], mode0: u32, mode1: u32, c: Case) -> LaneReads
     requires { ⌜ now powers ≡ entries ⌝ }
 {
-    let numbers = Numbers {
-        sin: SIN,
-        atan: ATAN,
-    };
+    let numbers = lanes::rust_numbers();
     let slot1 = Slot {
         mode: mode1,
         character: c.character1,

@@ -8,9 +8,6 @@ use crate::random::folded;
 use crate::random::next;
 use floats::nearest_i32;
 use floats::nearest_u32;
-use lanes::ATAN;
-use lanes::Numbers;
-use lanes::SIN;
 use wave::Filtered;
 use wave::Svf;
 ghost use mathlib.Core.Path.{_≡_};
@@ -19,10 +16,7 @@ ghost use Rattle.floats.specs.Exp2.{entries};
 pub fn wave_answer(powers: &[u32; 257], op: u32, a: u32, b: u32, c: u32) -> u32
     requires { ⌜ now powers ≡ entries ⌝ }
 {
-    let numbers = Numbers {
-        sin: SIN,
-        atan: ATAN,
-    };
+    let numbers = lanes::rust_numbers();
     let mode = a % 70;
     match op {
         0x30 => pattern(wave::curve(powers, numbers, mode, float(b))),
@@ -161,10 +155,7 @@ fn case_of(seed: u32, d: Draws, held: Held) -> Case {
 fn alone(powers: &[u32; 257], mode: u32, c: Case) -> Filtered
     requires { ⌜ now powers ≡ entries ⌝ }
 {
-    let numbers = Numbers {
-        sin: SIN,
-        atan: ATAN,
-    };
+    let numbers = lanes::rust_numbers();
     let a = c.percent * 0.01;
     if mode < 19 {
         let harmonic = wave::cutoff_harmonic(powers, mode, a);
@@ -178,10 +169,7 @@ fn alone(powers: &[u32; 257], mode: u32, c: Case) -> Filtered
 fn in_slot(powers: &[u32; 257], mode: u32, c: Case) -> Filtered
     requires { ⌜ now powers ≡ entries ⌝ }
 {
-    let numbers = Numbers {
-        sin: SIN,
-        atan: ATAN,
-    };
+    let numbers = lanes::rust_numbers();
     let a = lanes::clamp(c.percent, 0.0, 100.0) * 0.01;
     let setting = wave::setting_of(powers, mode, a, c.character, c.sourced, c.source);
     wave::shape(powers, numbers, mode, setting, c.increment, c.x, c.state)

@@ -11,6 +11,9 @@ started c = subst Few (sym (c .start .ensures)) (start-few _)
 applied : (c : tie.After-apply) → Few (c .apply .result)
 applied c = subst Few (sym (c .apply .ensures)) (apply-few _ _ _ _ _ _ _)
 
+rust-numbers-requires : tie.Need-rust-numbers-requires
+rust-numbers-requires c κs = search needs
+
 start-requires : tie.Need-start-requires
 start-requires c κs = search needs
 
@@ -28,4 +31,4 @@ returns c = search needs
 
 pub reads-spec : {M : Type 1} → statement M
 reads-spec =
-    tie.close (tie.spec start-requires apply-requires apply-requires-2 outgoing-requires returns)
+    tie.close (tie.spec rust-numbers-requires start-requires apply-requires apply-requires-2 outgoing-requires returns)
