@@ -17,9 +17,11 @@ extern "C" {
 
 /* What a call answers. A call is turned down by the first of these lines that holds, for the arguments that it has; then `frames` is 0
  * and every buffer is as it was:
+ *   1  a mode is above 69
  *   2  the factor is not 1, 2, 4 or 8
- *   3  the lane count is not 1..64, or the active lanes are more
- *   4  more than 4,096 frames
+ *   3  the lane count is not 1..64, the active lanes are more, or a single lane is not active
+ *   4  a block of more than 4,096 frames, a range past its end, or a single frame outside its range
+ *   5  the host rate is not 8,000..192,000
  *   6  a design's count is not 1..12 (of any of the three, whether the factor uses it or not)
  *   7  a buffer that is read is too short
  *   8  a buffer that is written is too short
@@ -28,6 +30,53 @@ struct shaper_answer {
     uint32_t number;
     uint32_t frames;
 };
+
+/* The same with the number that a call answers: 0 where it is turned down. */
+struct shaper_valued {
+    uint32_t number;
+    uint32_t frames;
+    float value;
+};
+
+/* Works out, once for a block, how steep each lane's slots read the cycle: three spans, each with a row for every sub-block of 32 host
+ * frames counted from the block's start, frames / 32 rounded up.
+ *
+ *   mode0, mode1      the slots' modes, 0..69
+ *   factor            1, 2, 4 or 8: rendered frames to a host frame
+ *   lanes, active     as below; lanes 0 to active - 1 are prepared
+ *   frames            the block's host frames, 0..4096
+ *   rate              the host rate in whole hertz, 8000..192000
+ *   base0, base1      read, at least lanes: a slot's amount in percent, knob plus the lane's offset
+ *   mod0, mod1        read, at least frames * lanes, or empty where the slot has none: what is added to the amount, by host frame
+ *   source0, source1  read, the same: what the slot hears. An empty one is absent, and a modulated mode then does nothing
+ *   curve             read, at least 1025: the remap curve's values
+ *   inner             written, a span: slot 1's steepest slope. A block run reads it
+ *   stretch, add      written, spans: the steepest slope of both slots, and what the modes with a source add to it, in words a rendered
+ *                     frame. shaper_stretch reads them
+ *
+ * A span has at least (frames + 31) / 32 * lanes numbers. Answers the block's frames. */
+struct shaper_answer shaper_prepare(
+    uint32_t mode0, uint32_t mode1, uint32_t factor, uint32_t lanes, uint32_t active, uint32_t frames, uint32_t rate,
+    const float *base0, size_t base0_length, const float *base1, size_t base1_length, const float *mod0, size_t mod0_length,
+    const float *mod1, size_t mod1_length, const float *source0, size_t source0_length, const float *source1, size_t source1_length,
+    const float *curve, size_t curve_length, float *inner, size_t inner_length, float *stretch, size_t stretch_length, float *add,
+    size_t add_length);
+
+/* How much faster than its phase a lane reads over some rendered frames of a range: at least 1. A host picks a band-limited cycle by it.
+ *
+ *   lane                a single lane, below active
+ *   frames              the block's host frames, 0..4096
+ *   first, count        the range: its first host frame, and how many
+ *   asked_first, asked  the rendered frames, counted from the range's start (count * factor of them lie in it). Asked for none, the call
+ *                       looks at asked_first, which must lie in the range as well
+ *   step                the lane's phase step, in words a rendered frame
+ *   stretch, add        read, the spans that shaper_prepare wrote for the block
+ *
+ * Answers the range's frames. */
+struct shaper_valued shaper_stretch(
+    uint32_t factor, uint32_t lanes, uint32_t active, uint32_t lane, uint32_t frames, uint32_t first, uint32_t count,
+    uint32_t asked_first, uint32_t asked, uint32_t step, const float *stretch, size_t stretch_length, const float *add,
+    size_t add_length);
 
 /* Decimates `buffer` in place by `factor`.
  *

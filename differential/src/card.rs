@@ -1,6 +1,7 @@
 //! The proved library's calls for C (crate `card`).
 
 use programs::decimations::Shape;
+use programs::singles::{Call, Slices};
 
 /// A refusal's number and 0, or 0 and the frames.
 #[repr(C)]
@@ -8,6 +9,15 @@ use programs::decimations::Shape;
 pub struct Answer {
     pub number: u32,
     pub frames: u32,
+}
+
+/// The same with a value, 0 after a refusal.
+#[repr(C)]
+#[derive(Clone, Copy, Debug)]
+pub struct Valued {
+    pub number: u32,
+    pub frames: u32,
+    pub value: f32,
 }
 
 unsafe extern "C" {
@@ -26,6 +36,51 @@ unsafe extern "C" {
         state: *mut f32,
         state_len: usize,
     ) -> Answer;
+    fn shaper_prepare(
+        mode0: u32,
+        mode1: u32,
+        factor: u32,
+        lanes: u32,
+        active: u32,
+        frames: u32,
+        rate: u32,
+        base0: *const f32,
+        base0_len: usize,
+        base1: *const f32,
+        base1_len: usize,
+        mod0: *const f32,
+        mod0_len: usize,
+        mod1: *const f32,
+        mod1_len: usize,
+        source0: *const f32,
+        source0_len: usize,
+        source1: *const f32,
+        source1_len: usize,
+        curve: *const f32,
+        curve_len: usize,
+        inner: *mut f32,
+        inner_len: usize,
+        stretch: *mut f32,
+        stretch_len: usize,
+        add: *mut f32,
+        add_len: usize,
+    ) -> Answer;
+    fn shaper_stretch(
+        factor: u32,
+        lanes: u32,
+        active: u32,
+        lane: u32,
+        frames: u32,
+        first: u32,
+        count: u32,
+        asked_first: u32,
+        asked_count: u32,
+        step: u32,
+        stretch: *const f32,
+        stretch_len: usize,
+        add: *const f32,
+        add_len: usize,
+    ) -> Valued;
 }
 
 /// The decimation of `buffer` in place.
@@ -46,6 +101,67 @@ pub fn decimate(shape: Shape, counts: [u32; 3], coefs: &[f32], buffer: &mut [f32
             buffer.len(),
             state.as_mut_ptr(),
             state.len(),
+        )
+    }
+}
+
+/// The three spans of a block, written.
+pub fn prepare(call: &Call, lent: Slices<'_>) -> Answer {
+    let Slices { lent: read, inner, stretch, add, .. } = lent;
+    // SAFETY: the pointers and counts are the slices', of which the written ones overlap none.
+    unsafe {
+        shaper_prepare(
+            call.modes[0],
+            call.modes[1],
+            call.factor,
+            call.lanes,
+            call.active,
+            call.frames,
+            call.rate,
+            read.base[0].as_ptr(),
+            read.base[0].len(),
+            read.base[1].as_ptr(),
+            read.base[1].len(),
+            read.mods[0].as_ptr(),
+            read.mods[0].len(),
+            read.mods[1].as_ptr(),
+            read.mods[1].len(),
+            read.sources[0].as_ptr(),
+            read.sources[0].len(),
+            read.sources[1].as_ptr(),
+            read.sources[1].len(),
+            read.curve.as_ptr(),
+            read.curve.len(),
+            inner.as_mut_ptr(),
+            inner.len(),
+            stretch.as_mut_ptr(),
+            stretch.len(),
+            add.as_mut_ptr(),
+            add.len(),
+        )
+    }
+}
+
+/// A lane's steepest slope over the asked frames.
+pub fn stretch(call: &Call, lent: Slices<'_>) -> Valued {
+    let Slices { stretch, add, .. } = lent;
+    // SAFETY: the pointers and counts are the slices'.
+    unsafe {
+        shaper_stretch(
+            call.factor,
+            call.lanes,
+            call.active,
+            call.lane,
+            call.frames,
+            call.first,
+            call.count,
+            call.frame,
+            call.asked,
+            call.step,
+            stretch.as_ptr(),
+            stretch.len(),
+            add.as_ptr(),
+            add.len(),
         )
     }
 }

@@ -2,13 +2,11 @@
 //! refusals.
 
 use crate::card::{self, Answer};
+use crate::guards::{GUARDS, differs, sets, unchanged};
 use crate::tally::{self, Tally};
+use programs::Generator;
 use programs::decimations::{Shape, cells, designs};
-use programs::{Generator, pattern};
 use ruled::api::halfband::{self as oracle, Design};
-
-/// The cells past the asked lengths that a call is lent beside them.
-const GUARDS: usize = 5;
 
 /// Cells of a state in a row of lanes.
 const STATE_ROWS: usize = 72;
@@ -21,19 +19,6 @@ fn rows(shape: Shape) -> usize {
 fn numbers(designs: &[Design; 3]) -> ([u32; 3], Vec<f32>) {
     let counts = designs.map(|d| d.count as u32);
     (counts, designs.iter().flat_map(|d| d.coefs).collect())
-}
-
-/// The first cell that differs, all NaNs being one value.
-fn differs(got: &[f32], want: &[f32]) -> Option<usize> {
-    (0..got.len().max(want.len())).find(|&i| match (got.get(i), want.get(i)) {
-        (Some(&g), Some(&w)) => pattern(g) != pattern(w),
-        _ => true,
-    })
-}
-
-/// The same cells, NaN or not.
-fn unchanged(got: &[f32], before: &[f32], left: impl Fn(usize) -> bool) -> Option<usize> {
-    (0..got.len()).find(|&i| left(i) && got[i].to_bits() != before[i].to_bits())
 }
 
 /// Drawn numbers of a call. Most are small, so that there are many; some have up to 64 lanes or some
@@ -286,7 +271,7 @@ impl Lent {
     }
 }
 
-/// Every cause alone, every two and every three, on calls that are right but for them.
+/// No cause, every cause alone, every two and every three, on calls that are right but for them.
 fn refusals(_: u64, tally: &mut Tally) {
     let mut g = Generator(0x85eb_ca6b);
     let lent = Lent::new(&mut g);
@@ -296,31 +281,21 @@ fn refusals(_: u64, tally: &mut Tally) {
         lacking: [0; 3],
     };
     let bases = [right(4, 8, 5, 10), right(1, 1, 1, 1), right(2, 3, 3, 0), right(8, 2, 0, 3)];
+    let arguments = CAUSES.map(|cause| cause.1);
     for base in bases {
-        lent.call(&base, tally);
-        let with = |causes: &[usize], tally: &mut Tally| {
+        sets(&arguments, 3, &mut |causes| {
             let mut asked = base;
             for &i in causes {
                 CAUSES[i].2(&mut asked);
             }
-            let number = causes.iter().map(|&i| CAUSES[i].0).min();
+            let number = causes.iter().map(|&i| CAUSES[i].0).min().unwrap_or(0);
             // without frames no buffer is too short
             if base.shape.frames > 0 {
                 let table = first_line(&asked);
-                tally.case(number == Some(table), || format!("{asked:x?}: {number:?}, the table {table}"));
+                tally.case(number == table, || format!("{asked:x?}: {number}, the table {table}"));
             }
             lent.call(&asked, tally);
-        };
-        let differ = |i: usize, j: usize| CAUSES[i].1 != CAUSES[j].1;
-        for i in 0..CAUSES.len() {
-            with(&[i], tally);
-            for j in (0..i).filter(|&j| differ(i, j)) {
-                with(&[j, i], tally);
-                for k in (0..j).filter(|&k| differ(i, k) && differ(j, k)) {
-                    with(&[k, j, i], tally);
-                }
-            }
-        }
+        });
     }
 }
 

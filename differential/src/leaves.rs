@@ -6,7 +6,7 @@ use programs::{Generator, lookup_table};
 use ruled::api::lanes as oracle;
 
 /// An odd step, so that `count` patterns are spread over all of them.
-fn patterns(count: u64) -> impl Iterator<Item = u32> {
+pub fn patterns(count: u64) -> impl Iterator<Item = u32> {
     let step = ((1u64 << 32) / count.max(1)) | 1;
     (0..count).map(move |i| (i * step) as u32)
 }

@@ -3,14 +3,17 @@
 
 mod card;
 mod decimate;
+mod guards;
 mod leaves;
 mod phases;
 mod probe;
+mod singles;
 mod speed;
 mod tally;
 mod waves;
 
-const USAGE: &str = "usage: differential quick | leaves COUNT | phases COUNT | waves COUNT | decimate COUNT | speed";
+const USAGE: &str =
+    "usage: differential quick | leaves COUNT | phases COUNT | waves COUNT | decimate COUNT | singles COUNT | speed";
 
 fn finish(tally: &tally::Tally) {
     println!("{} of {}", tally.passed, tally.total);
@@ -28,12 +31,14 @@ fn main() {
             all.add(&phases::compare(400_000));
             all.add(&waves::compare(150_000));
             all.add(&decimate::compare(2_000));
+            all.add(&singles::compare(4_900));
             finish(&all);
         }
         ["leaves", count] => finish(&leaves::compare(count.parse().expect(USAGE))),
         ["phases", count] => finish(&phases::compare(count.parse().expect(USAGE))),
         ["waves", count] => finish(&waves::compare(count.parse().expect(USAGE))),
         ["decimate", count] => finish(&decimate::compare(count.parse().expect(USAGE))),
+        ["singles", count] => finish(&singles::compare(count.parse().expect(USAGE))),
         ["speed"] => speed::table(),
         _ => {
             eprintln!("{USAGE}");

@@ -58,7 +58,7 @@ fn table(g: &mut Generator, entry: fn(&mut Generator) -> f32) -> Vec<f32> {
 
 /// Tables of every kind: drawn from 0 to 1, the identity, the gentle ones of a seed, zeros of both
 /// signs with ones among them, special floats, any patterns, and floats of every kind.
-fn tables(seed: u32) -> Vec<Vec<f32>> {
+pub fn tables(seed: u32) -> Vec<Vec<f32>> {
     let mut g = Generator(seed | 1);
     vec![
         table(&mut g, |g| (g.draw() >> 8) as f32 / 16_777_216.0),
@@ -178,7 +178,7 @@ fn slots(modes: [u32; 2], case: &Case) -> Slots {
 }
 
 /// A read list as words, every NaN's pattern the same.
-fn nine(reads: &LaneReads) -> [u64; 9] {
+pub fn nine(reads: &LaneReads) -> [u64; 9] {
     let [a, b, c, d] = reads.phase.map(u64::from);
     let [e, f, g, h] = reads.gain.map(|x| u64::from(pattern(x)));
     [a, b, c, d, e, f, g, h, reads.count as u64]

@@ -1,5 +1,8 @@
 //! The proved library's exports for tests (crate `probe`).
 
+use crate::card::Valued;
+use programs::singles::{Call, Slices};
+
 /// The sine and arctangent numbers.
 #[repr(C)]
 #[derive(Clone, Copy)]
@@ -48,6 +51,15 @@ pub struct LaneReads {
     pub phase: [u32; 4],
     pub gain: [f32; 4],
     pub count: usize,
+}
+
+/// A read list with its call's number and frames; after a refusal only zeros.
+#[repr(C)]
+#[derive(Clone, Copy)]
+pub struct ReadsAnswer {
+    pub number: u32,
+    pub frames: u32,
+    pub reads: LaneReads,
 }
 
 /// A slot's two states.
@@ -101,6 +113,7 @@ unsafe extern "C" {
     pub safe fn probe_oversampled(mode: u32) -> u32;
     pub safe fn probe_distortion(mode: u32) -> u32;
     pub safe fn probe_stretch(mode: u32, amount: f32, curve: f32) -> Answer;
+    pub safe fn probe_fm_exponential(s: f32) -> f32;
     pub safe fn probe_wave_curve(numbers: Numbers, mode: u32, x: f32) -> f32;
     pub safe fn probe_wave_integral(numbers: Numbers, mode: u32, x: f32) -> f32;
     pub safe fn probe_distort(numbers: Numbers, mode: u32, a: f32, x: f32) -> f32;
@@ -176,6 +189,77 @@ unsafe extern "C" {
         out: *mut f32,
         out_len: usize,
     ) -> usize;
+    fn probe_reads_lane(
+        mode0: u32,
+        mode1: u32,
+        character0: f32,
+        character1: f32,
+        factor: u32,
+        lanes: u32,
+        active: u32,
+        lane: u32,
+        frames: u32,
+        first: u32,
+        count: u32,
+        frame: u32,
+        rate: u32,
+        word: u32,
+        step: u32,
+        numbers: Numbers,
+        base0: *const f32,
+        base0_len: usize,
+        base1: *const f32,
+        base1_len: usize,
+        mod0: *const f32,
+        mod0_len: usize,
+        mod1: *const f32,
+        mod1_len: usize,
+        source0: *const f32,
+        source0_len: usize,
+        source1: *const f32,
+        source1_len: usize,
+        curve: *const f32,
+        curve_len: usize,
+        inner: *const f32,
+        inner_len: usize,
+        fm: *mut f32,
+        fm_len: usize,
+        last: *const f32,
+        last_len: usize,
+    ) -> ReadsAnswer;
+    fn probe_shape_at_lane(
+        mode0: u32,
+        mode1: u32,
+        character0: f32,
+        character1: f32,
+        factor: u32,
+        lanes: u32,
+        active: u32,
+        lane: u32,
+        frames: u32,
+        first: u32,
+        count: u32,
+        frame: u32,
+        step: u32,
+        x: f32,
+        numbers: Numbers,
+        base0: *const f32,
+        base0_len: usize,
+        base1: *const f32,
+        base1_len: usize,
+        mod0: *const f32,
+        mod0_len: usize,
+        mod1: *const f32,
+        mod1_len: usize,
+        source0: *const f32,
+        source0_len: usize,
+        source1: *const f32,
+        source1_len: usize,
+        pairs: *mut f32,
+        pairs_len: usize,
+        last: *mut f32,
+        last_len: usize,
+    ) -> Valued;
 }
 
 pub fn lookup(table: &[f32], x: f32) -> f32 {
@@ -262,6 +346,93 @@ pub fn shape_run(slot: &WaveSlot, xs: &[f32], out: &mut [f32], state: &mut [f32]
             out.len(),
             state.as_mut_ptr(),
             state.len(),
+        )
+    }
+}
+
+/// The read list of a lane at a rendered frame.
+pub fn reads_lane(call: &Call, lent: Slices<'_>) -> ReadsAnswer {
+    let Slices { lent: read, inner, fm, last, .. } = lent;
+    // SAFETY: the pointers and counts are the slices', of which `fm` overlaps none.
+    unsafe {
+        probe_reads_lane(
+            call.modes[0],
+            call.modes[1],
+            call.characters[0],
+            call.characters[1],
+            call.factor,
+            call.lanes,
+            call.active,
+            call.lane,
+            call.frames,
+            call.first,
+            call.count,
+            call.frame,
+            call.rate,
+            call.word,
+            call.step,
+            NUMBERS,
+            read.base[0].as_ptr(),
+            read.base[0].len(),
+            read.base[1].as_ptr(),
+            read.base[1].len(),
+            read.mods[0].as_ptr(),
+            read.mods[0].len(),
+            read.mods[1].as_ptr(),
+            read.mods[1].len(),
+            read.sources[0].as_ptr(),
+            read.sources[0].len(),
+            read.sources[1].as_ptr(),
+            read.sources[1].len(),
+            read.curve.as_ptr(),
+            read.curve.len(),
+            inner.as_ptr(),
+            inner.len(),
+            fm.as_mut_ptr(),
+            fm.len(),
+            last.as_ptr(),
+            last.len(),
+        )
+    }
+}
+
+/// The sample of a lane at a rendered frame, shaped.
+pub fn shape_at_lane(call: &Call, lent: Slices<'_>) -> Valued {
+    let Slices { lent: read, pairs, last, .. } = lent;
+    // SAFETY: the pointers and counts are the slices', of which the written ones overlap none.
+    unsafe {
+        probe_shape_at_lane(
+            call.modes[0],
+            call.modes[1],
+            call.characters[0],
+            call.characters[1],
+            call.factor,
+            call.lanes,
+            call.active,
+            call.lane,
+            call.frames,
+            call.first,
+            call.count,
+            call.frame,
+            call.step,
+            call.x,
+            NUMBERS,
+            read.base[0].as_ptr(),
+            read.base[0].len(),
+            read.base[1].as_ptr(),
+            read.base[1].len(),
+            read.mods[0].as_ptr(),
+            read.mods[0].len(),
+            read.mods[1].as_ptr(),
+            read.mods[1].len(),
+            read.sources[0].as_ptr(),
+            read.sources[0].len(),
+            read.sources[1].as_ptr(),
+            read.sources[1].len(),
+            pairs.as_mut_ptr(),
+            pairs.len(),
+            last.as_mut_ptr(),
+            last.len(),
         )
     }
 }

@@ -1,9 +1,9 @@
--- Document 01's P cases: what the definitions give, and what document 01 says. A float is given by its bit pattern. P10 and
--- P11, on amounts and sources, come with the crate that has those. Definitions only.
+-- Document 01's P cases: what the definitions give, and what document 01 says. A float is given by its bit pattern. Definitions only.
 use mathlib.Core.Path.{_≡_}
 use mathlib.Core.Bool.{false}
+use mathlib.Core.Option.{none}
 use mathlib.Core.List.{List, [], _∷_}
-use Prim.Native.Nat.{ℕ}
+use Prim.Native.Nat.{ℕ, _/_, _%_}
 use lib.IntN.{negsuc}
 use lib.ListN.{getD}
 use lib.Ieee.{Float, nan, fin, binary32, toBits}
@@ -22,6 +22,7 @@ use Rattle.wave.specs.Curve.{curveOf}
 use Rattle.wave.specs.Integral.{integralOf}
 use Rattle.wave.specs.Smooth.{distortSmooth}
 use Rattle.wave.specs.Slot.{levelOf}
+use Rattle.controls.specs.Controls.{amountAt, sourceAt}
 use Rattle.halfband.specs.Halfband.{View, cascade}
 use Rattle.halfband.specs.Floats.{floats, sections}
 
@@ -90,6 +91,14 @@ cases =
       number = 9;
       given = pattern (exp2Of (bits 0x3f00_0000)) ∷ [];
       said = pattern (fin false 11863283 (negsuc 22)) ∷ [];
+    }
+    -- base 120 gives amount 1
+    ∷ record { number = 10; given = pattern (amountAt (bits 0x42f0_0000) none 0) ∷ []; said = 0x3f80_0000 ∷ [] }
+    -- rows 0 and 1, factor 4, rendered frame 1: 0.25; frame 5: 1
+    ∷ record {
+      number = 11;
+      given = pattern (sourceAt 4 2 (0f ∷ 1f ∷ []) (1 / 4) (1 % 4)) ∷ pattern (sourceAt 4 2 (0f ∷ 1f ∷ []) (5 / 4) (5 % 4)) ∷ [];
+      said = 0x3e80_0000 ∷ 0x3f80_0000 ∷ [];
     }
     -- AM, amount 1, source -1, sample 1: 0
     ∷ record { number = 12; given = pattern (levelOf (numberOf Am1) (Setting.Level 1f (bits 0xbf80_0000)) 1f) ∷ []; said = 0 ∷ [] }

@@ -12,12 +12,13 @@ use borrow.Author.Tests.{ne-eqb}
 use Rattle.grid.specs.Cells.{col, blk}
 use Rattle.grid.proofs.CellLaws.{same-columns, same-blocks}
 use Rattle.grid.proofs.EachLaws.{each-unique}
+use Rattle.limits.specs.declared.Answer.{Answer}
+use Rattle.limits.proofs.LineLaws.{good-lanes}
 use Rattle.halfband.specs.declared.design.Designs.{Designs}
-use Rattle.halfband.specs.declared.cascade.Answer.{Answer}
 use Rattle.halfband.specs.Halfband.{View, view, views}
 use Rattle.halfband.specs.Floats.{floats, designOf}
 use Rattle.halfband.specs.Decimated.{callNumber, Decimated}
-use Rattle.halfband.proofs.RefusalLaws.{good-lanes, Passed, accepted, passed}
+use Rattle.halfband.proofs.RefusalLaws.{Passed, accepted, passed}
 
 module _ (ds : Designs) (coefs factor n active f : ℕ) (buf st : List Float) where
   abbrev Number : ℕ

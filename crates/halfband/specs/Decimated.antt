@@ -7,8 +7,8 @@ use lib.Dec.{eqb}
 use lib.ListN.{length}
 use lib.Ieee.{Float}
 use Rattle.grid.specs.Lanes.{Each}
+use Rattle.limits.specs.declared.Answer.{Answer}
 use Rattle.halfband.specs.declared.design.Designs.{Designs}
-use Rattle.halfband.specs.declared.cascade.Answer.{Answer}
 use Rattle.halfband.specs.Halfband.{View, views, cascade}
 use Rattle.halfband.specs.Floats.{floats, designOf}
 use Rattle.halfband.specs.Refusal.{refusal, stagesOf}

@@ -3,6 +3,7 @@ use crate::design::Designs;
 use crate::refusal::refused;
 use crate::refusal::stages_of;
 use crate::stage::stage;
+use limits::Answer;
 ghost use mathlib.Core.Path.{_≡_};
 ghost use Prim.Native.Nat.{_+_, _<_, _≤_};
 ghost use lib.ListN.{length};
@@ -11,13 +12,6 @@ ghost use Rattle.halfband.specs.Halfband.{views};
 ghost use Rattle.halfband.specs.Floats.{floats};
 ghost use Rattle.halfband.specs.Promises.{Taken};
 ghost use Rattle.halfband.specs.Decimated.{lanePart, Decimated};
-
-// The number by which a call is turned down, 0 where it is accepted, and the frames that it made.
-#[repr(C)]
-pub struct Answer {
-    pub number: u32,
-    pub frames: u32,
-}
 
 // One lane's whole share of a call: the stages, the one farthest from the output first.
 pub fn decimate_lane(

@@ -5,7 +5,6 @@ pub mod design;
 pub mod refusal;
 pub mod stage;
 
-pub use cascade::Answer;
 pub use cascade::decimate_lane;
 pub use cascade::process;
 pub use design::CARD;
@@ -13,9 +12,6 @@ pub use design::Design;
 pub use design::Designs;
 pub use design::card_designs;
 pub use design::designs_of;
-pub use refusal::counts_bad;
-pub use refusal::factor_bad;
-pub use refusal::frames_bad;
-pub use refusal::lanes_bad;
+pub use limits::Answer;
 pub use refusal::refused;
 pub use refusal::stages_of;

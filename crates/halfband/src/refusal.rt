@@ -1,43 +1,13 @@
-// When a call is turned down: document 01's table, with a function for each line that other calls
-// share.
+// When a decimation is turned down, and its stages.
+use limits::coefs_short;
+use limits::counts_bad;
+use limits::factor_bad;
+use limits::frames_bad;
+use limits::lanes_bad;
 ghost use mathlib.Core.Path.{_≡_};
 ghost use Prim.Native.Nat.{_≤_};
 ghost use mathlib.Core.Bool.{_||_};
-ghost use Rattle.halfband.specs.Refusal.{badFactor, badLanes, badFrames, badCount, badCounts, shortRows, shortState, refusal, stagesOf};
-
-// Line 2.
-pub fn factor_bad(factor: u32) -> bool
-    ensures { λ r. ⌜ r ≡ badFactor factor ⌝ }
-{
-    !((factor == 1) | (factor == 2) | (factor == 4) | (factor == 8))
-}
-
-// Line 3.
-pub fn lanes_bad(lanes: u32, active: u32) -> bool
-    ensures { λ r. ⌜ r ≡ badLanes lanes active ⌝ }
-{
-    (lanes < 1) | (64 < lanes) | (lanes < active)
-}
-
-// Line 4.
-pub fn frames_bad(frames: u32) -> bool
-    ensures { λ r. ⌜ r ≡ badFrames frames ⌝ }
-{
-    4096 < frames
-}
-
-fn count_bad(count: u32) -> bool
-    ensures { λ r. ⌜ r ≡ badCount count ⌝ }
-{
-    (count < 1) | (12 < count)
-}
-
-// Line 6.
-pub fn counts_bad(count0: u32, count1: u32, count2: u32) -> bool
-    ensures { λ r. ⌜ r ≡ badCounts count0 count1 count2 ⌝ }
-{
-    count_bad(count0) | count_bad(count1) | count_bad(count2)
-}
+ghost use Rattle.halfband.specs.Refusal.{shortRows, shortState, refusal, stagesOf};
 
 // Line 8. The lines above it keep the products small.
 fn written_short(factor: u32, lanes: u32, frames: u32, buffer: usize, state: usize) -> bool
@@ -75,7 +45,7 @@ pub fn refused(
     if counts_bad(count0, count1, count2) {
         return 6;
     }
-    if coefs < 36 {
+    if coefs_short(coefs) {
         return 7;
     }
     if written_short(factor, lanes, frames, buffer, state) {

@@ -3,3 +3,4 @@ pub mod Codes
 pub mod Runs
 pub mod Phases
 pub mod Waves
+pub mod Singles

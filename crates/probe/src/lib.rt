@@ -3,4 +3,5 @@
 pub mod fact;
 pub mod leaf;
 pub mod phases;
+pub mod singles;
 pub mod waves;

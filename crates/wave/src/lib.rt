@@ -14,6 +14,8 @@ pub use filters::damping;
 pub use filters::filter;
 pub use integrals::integral;
 pub use slots::Setting;
+pub use slots::in_wave;
+pub use slots::is_modulated;
 pub use slots::level;
 pub use slots::setting_of;
 pub use slots::shape;

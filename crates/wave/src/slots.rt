@@ -23,7 +23,7 @@ pub enum Setting {
 }
 
 // Whether a slot with this mode acts on the value.
-fn in_wave(mode: u32) -> bool
+pub fn in_wave(mode: u32) -> bool
     ensures { λ r. ⌜ r ≡ inWave mode ⌝ }
 {
     let stage = modes::stage(mode);
@@ -43,7 +43,7 @@ fn is_filter(mode: u32) -> bool
     }
 }
 
-fn is_modulated(mode: u32) -> bool
+pub fn is_modulated(mode: u32) -> bool
     ensures { λ r. ⌜ r ≡ isModulated mode ⌝ }
 {
     let modulated = modes::modulated(mode);

@@ -1,8 +1,10 @@
 //! What the vector programs share: the generator, the hash, the leaves
-//! by operation code, and the cases of the phase side and the decimator.
+//! by operation code, and the cases of the phase side, the wave side, the
+//! decimator and the single calls.
 
 pub mod decimations;
 pub mod phases;
+pub mod singles;
 pub mod waves;
 
 use ruled::api::lanes;

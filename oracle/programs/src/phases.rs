@@ -114,7 +114,7 @@ fn half_width(draw: u32) -> u32 {
 }
 
 /// What slot 1 stretches slot 0's half width by: 1, or 1/16 to 16.
-fn inner_stretch(draw: u32) -> u32 {
+pub(crate) fn inner_stretch(draw: u32) -> u32 {
     match draw & 3 {
         0 => 0x3f80_0000,
         _ => (123 + (draw >> 2 & 7)) << 23 | draw >> 9,
@@ -122,7 +122,7 @@ fn inner_stretch(draw: u32) -> u32 {
 }
 
 /// The floats that a rule may end at.
-fn special(draw: u32) -> u32 {
+pub(crate) fn special(draw: u32) -> u32 {
     match draw >> 28 {
         0 => 0x0000_0000,
         1 => 0x8000_0000,

@@ -65,7 +65,7 @@ pub struct Case {
 }
 
 /// 0, 50, 100, or a number from 0 to 128.
-fn percent(draw: u32) -> u32 {
+pub(crate) fn percent(draw: u32) -> u32 {
     match draw & 7 {
         0 => 0x0000_0000,
         1 => 0x4248_0000,
@@ -75,13 +75,14 @@ fn percent(draw: u32) -> u32 {
 }
 
 /// A number from -1 to 1.
-fn sample(draw: u32) -> u32 {
+pub(crate) fn sample(draw: u32) -> u32 {
     ((draw >> 8) as f32 / 8_388_608.0 - 1.0).to_bits()
 }
 
 /// The same sample as the last, or one that a distortion finds just apart
 /// from it or just together with it: 1 % off, above 1 in proportion.
-fn near(how: u32, last: f32) -> Option<f32> {
+#[must_use]
+pub fn near(how: u32, last: f32) -> Option<f32> {
     Some(match how & 15 {
         0 | 1 => last,
         2 => last * f(0x3f7d_70a3), // around 0.99

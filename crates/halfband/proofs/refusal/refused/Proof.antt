@@ -2,9 +2,9 @@
 use mathlib.Core.Path.{_≡_, sym, _∙_}
 use mathlib.Core.Bool.{false}
 use borrow.Author.Needs.{needs}
-use borrow.Author.Tests.{lt-ltb, le-ltb}
-use Rattle.halfband.specs.Refusal.{firstOf, badFactor, badLanes, badFrames, badCounts, shortCoefs, refusal}
-use Rattle.halfband.proofs.RefusalLaws.{small-factor, good-lanes, good-frames}
+use Rattle.limits.specs.Lines.{firstOf, badFactor, badLanes, badFrames, badCounts, shortCoefs}
+use Rattle.limits.proofs.LineLaws.{small-factor, good-lanes, good-frames}
+use Rattle.halfband.specs.Refusal.{refusal}
 use Rattle.halfband.proofs.refusal.refused.Statement.{statement}
 use Rattle.halfband.proofs.refusal.refused.Tie as tie
 
@@ -22,8 +22,8 @@ passed-6 : (c : tie.Else4)
     → badCounts (c .before .before .before .before .before .before .before .before .args .count0) (c .before .before .before .before .before .before .before .before .args .count1) (c .before .before .before .before .before .before .before .before .args .count2) ≡ false
 passed-6 c = sym (c .before .counts-bad .ensures) ∙ c .if4 .left
 
-passed-7 : (c : tie.Else5) → shortCoefs (c .before .before .before .before .before .before .before .before .before .args .coefs) ≡ false
-passed-7 c = le-ltb _ _ (c .if5 .left)
+passed-7 : (c : tie.Else5) → shortCoefs (c .before .before .before .before .before .before .before .before .before .before .args .coefs) ≡ false
+passed-7 c = sym (c .before .coefs-short .ensures) ∙ c .if5 .left
 
 returns : tie.Need-returns
 unfolding refusal firstOf
@@ -45,17 +45,17 @@ returns-4 c =
 returns-5 : tie.Need-returns-5
 unfolding refusal firstOf
 returns-5 c =
-    rw (passed-2 (c .before .before .before .before .before .before .before), passed-3 (c .before .before .before .before .before), passed-4 (c .before .before .before), passed-6 (c .before), lt-ltb _ _ (c .if5 .taken))
+    rw (passed-2 (c .before .before .before .before .before .before .before .before), passed-3 (c .before .before .before .before .before .before), passed-4 (c .before .before .before .before), passed-6 (c .before .before), sym (c .before .coefs-short .ensures) ∙ c .if5 .taken)
 
 returns-6 : tie.Need-returns-6
 unfolding refusal firstOf
 returns-6 c =
-    rw (passed-2 (c .before .before .before .before .before .before .before .before .before), passed-3 (c .before .before .before .before .before .before .before), passed-4 (c .before .before .before .before .before), passed-6 (c .before .before .before), passed-7 (c .before .before), sym (c .before .written-short .ensures) ∙ c .if6 .taken)
+    rw (passed-2 (c .before .before .before .before .before .before .before .before .before .before), passed-3 (c .before .before .before .before .before .before .before .before), passed-4 (c .before .before .before .before .before .before), passed-6 (c .before .before .before .before), passed-7 (c .before .before), sym (c .before .written-short .ensures) ∙ c .if6 .taken)
 
 returns-7 : tie.Need-returns-7
 unfolding refusal firstOf
 returns-7 c =
-    rw (passed-2 (c .before .before .before .before .before .before .before .before .before), passed-3 (c .before .before .before .before .before .before .before), passed-4 (c .before .before .before .before .before), passed-6 (c .before .before .before), passed-7 (c .before .before), sym (c .before .written-short .ensures) ∙ c .if6 .left)
+    rw (passed-2 (c .before .before .before .before .before .before .before .before .before .before), passed-3 (c .before .before .before .before .before .before .before .before), passed-4 (c .before .before .before .before .before .before), passed-6 (c .before .before .before .before), passed-7 (c .before .before), sym (c .before .written-short .ensures) ∙ c .if6 .left)
 
 pub refused-spec : {M : Type 1} → statement M
 refused-spec =
@@ -69,7 +69,8 @@ refused-spec =
     returns-3
     (λ c κs. search needs)
     returns-4
+    (λ c κs. search needs)
     returns-5
-    (λ c κs. (small-factor _ (passed-2 (c .before .before .before .before .before .before .before)), good-lanes _ _ (passed-3 (c .before .before .before .before .before)) .1, good-frames _ (passed-4 (c .before .before .before))))
+    (λ c κs. (small-factor _ (passed-2 (c .before .before .before .before .before .before .before .before)) .1, good-lanes _ _ (passed-3 (c .before .before .before .before .before .before)) .1, good-frames _ (passed-4 (c .before .before .before .before))))
     returns-6
     returns-7)

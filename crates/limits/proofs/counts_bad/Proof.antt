@@ -1,7 +1,7 @@
--- `refusal::counts_bad` meets its contract. Assumes nothing.
+-- `counts_bad` meets its contract. Assumes nothing.
 use borrow.Author.Needs.{needs}
-use Rattle.halfband.proofs.refusal.counts_bad.Statement.{statement}
-use Rattle.halfband.proofs.refusal.counts_bad.Tie as tie
+use Rattle.limits.proofs.counts_bad.Statement.{statement}
+use Rattle.limits.proofs.counts_bad.Tie as tie
 
 returns : tie.Need-returns
 returns c = rw (c .count-bad3 .ensures, c .before .count-bad2 .ensures, c .before .before .count-bad .ensures)

@@ -1,0 +1,2 @@
+-- The laws of amounts and sources, for the crates above.
+pub mod LentLaws

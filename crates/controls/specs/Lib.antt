@@ -1,0 +1,2 @@
+pub mod Controls
+pub mod Places

@@ -1,0 +1,119 @@
+-- The laws of the table of refusals: what a call that passes a line has. Assumes nothing.
+use mathlib.Core.Path.{_≡_, refl}
+use mathlib.Core.Bool.{Bool, true, false, _||_}
+use mathlib.Core.List.{List, _∷_}
+use Prim.Native.Nat.{ℕ, suc, _+_, _*_, _/_, _≤_, _<_}
+use native.Mathlib.Omega.{arith}
+use lib.Dec.{ltb, eqb}
+use borrow.Author.Tests.{ltb-true, ltb-false, eqb-true, ne-eqb, not-false}
+use Rattle.limits.specs.Lines.{firstOf, badMode, badModes, badFactor, badLanes, badLane, badFrames, badRange, badFrame, badAsked, badRate, badCount, badCounts, shortCoefs, shortNumbers, shortLent, spansOf}
+
+-- ---- any table
+
+-- a line that does not hold, and the lines below it
+pub first-passed : (t : Bool) (m : ℕ) (lines : List (Bool × ℕ)) → firstOf ((t, suc m) ∷ lines) ≡ 0
+    → (t ≡ false) × (firstOf lines ≡ 0)
+unfolding firstOf
+first-passed true m lines e = absurd (omega arith)
+first-passed false m lines e = (refl, e)
+
+pub or-false : (a b : Bool) → (a || b) ≡ false → (a ≡ false) × (b ≡ false)
+or-false true b e = absurd (let z : _≡_ {A = ℕ} 0 1 = cc in omega arith)
+or-false false b e = (refl, e)
+
+-- ---- the lines
+
+pub good-mode : (mode : ℕ) → badMode mode ≡ false → mode ≤ 69
+good-mode mode e = ltb-false 69 mode e
+
+pub good-modes : (mode0 mode1 : ℕ) → badModes mode0 mode1 ≡ false → (mode0 ≤ 69) × (mode1 ≤ 69)
+good-modes mode0 mode1 e =
+    let p = or-false (badMode mode0) (badMode mode1) e in
+    (good-mode mode0 (p .0), good-mode mode1 (p .1))
+
+-- what holds of the four factors
+pub the-factor : (P : ℕ → Type 0) → P 1 → P 2 → P 4 → P 8 → (factor : ℕ) → badFactor factor ≡ false → P factor
+the-factor P p1 p2 p4 p8 factor = go (eqb factor 1) (eqb factor 2) (eqb factor 4) (eqb factor 8) refl refl refl refl
+  where
+    go : (a b c d : Bool) → eqb factor 1 ≡ a → eqb factor 2 ≡ b → eqb factor 4 ≡ c → eqb factor 8 ≡ d
+        → badFactor factor ≡ false → P factor
+    go true b c d ea eb ec ed h = rw (eqb-true factor 1 ea) p1
+    go false true c d ea eb ec ed h = rw (eqb-true factor 2 eb) p2
+    go false false true d ea eb ec ed h = rw (eqb-true factor 4 ec) p4
+    go false false false true ea eb ec ed h = rw (eqb-true factor 8 ed) p8
+    go false false false false ea eb ec ed h =
+        absurd (let k : true ≡ false = rw (ea, eb, ec, ed) at h in let z : _≡_ {A = ℕ} 0 1 = cc in omega arith)
+
+pub small-factor : (factor : ℕ) → badFactor factor ≡ false → (1 ≤ factor) × (factor ≤ 8)
+small-factor =
+    the-factor (λ (f : ℕ). (1 ≤ f) × (f ≤ 8))
+    (omega arith, omega arith)
+    (omega arith, omega arith)
+    (omega arith, omega arith)
+    (omega arith, omega arith)
+
+pub good-lanes : (n active : ℕ) → badLanes n active ≡ false → (1 ≤ n) × (n ≤ 64) × (active ≤ n)
+good-lanes n active e =
+    let p = or-false (ltb n 1 || ltb 64 n) (ltb n active) e in
+    let q = or-false (ltb n 1) (ltb 64 n) (p .0) in
+    (ltb-false n 1 (q .0), ltb-false 64 n (q .1), ltb-false n active (p .1))
+
+pub good-lane : (active lane : ℕ) → badLane active lane ≡ false → lane < active
+good-lane active lane e = ltb-true lane active (not-false (ltb lane active) e)
+
+pub good-frames : (f : ℕ) → badFrames f ≡ false → f ≤ 4096
+good-frames f e = ltb-false 4096 f e
+
+pub good-range : (frames first count : ℕ) → badRange frames first count ≡ false → first + count ≤ frames
+good-range frames first count e = ltb-false frames (first + count) e
+
+pub good-frame : (factor count frame : ℕ) → badFrame factor count frame ≡ false → frame < count * factor
+good-frame factor count frame e = ltb-true frame (count * factor) (not-false (ltb frame (count * factor)) e)
+
+pub good-asked : (factor count first asked : ℕ) → badAsked factor count first asked ≡ false
+    → (first < count * factor) × (first + asked ≤ count * factor)
+good-asked factor count first asked e =
+    let p = or-false (badFrame factor count first) (ltb (count * factor) (first + asked)) e in
+    (good-frame factor count first (p .0), ltb-false (count * factor) (first + asked) (p .1))
+
+pub good-rate : (rate : ℕ) → badRate rate ≡ false → (8000 ≤ rate) × (rate ≤ 192000)
+good-rate rate e =
+    let p = or-false (ltb rate 8000) (ltb 192000 rate) e in
+    (ltb-false rate 8000 (p .0), ltb-false 192000 rate (p .1))
+
+pub good-count : (count : ℕ) → badCount count ≡ false → (1 ≤ count) × (count ≤ 12)
+good-count count e =
+    let p = or-false (ltb count 1) (ltb 12 count) e in
+    (ltb-false count 1 (p .0), ltb-false 12 count (p .1))
+
+pub good-counts : (a b c : ℕ) → badCounts a b c ≡ false → (a ≤ 12) × (b ≤ 12) × (c ≤ 12)
+good-counts a b c e =
+    let p = or-false (badCount a || badCount b) (badCount c) e in
+    let q = or-false (badCount a) (badCount b) (p .0) in
+    (good-count a (q .0) .1, good-count b (q .1) .1, good-count c (p .1) .1)
+
+pub good-coefs : (have : ℕ) → shortCoefs have ≡ false → 36 ≤ have
+good-coefs have e = ltb-false have 36 e
+
+pub good-numbers : (have : ℕ) → shortNumbers have ≡ false → 13 ≤ have
+good-numbers have e = ltb-false have 13 e
+
+-- one that is given is long enough
+pub good-lent : (need have : ℕ) → shortLent need have ≡ false → (have ≡ 0 → ⊥) → need ≤ have
+good-lent need have e given = ltb-false have need (rw (ne-eqb have 0 given) at e)
+
+-- ---- sub-blocks
+
+-- a host frame's sub-block
+pub span-in : (frames h : ℕ) → h < frames → h / 32 < spansOf frames
+unfolding spansOf
+span-in frames h l = omega arith
+
+pub spans-small : (frames : ℕ) → frames ≤ 4096 → spansOf frames ≤ 128
+unfolding spansOf
+spans-small frames l = omega arith
+
+-- a sub-block's first host frame
+pub span-first : (frames s : ℕ) → s < spansOf frames → s * 32 < frames
+unfolding spansOf
+span-first frames s l = omega arith

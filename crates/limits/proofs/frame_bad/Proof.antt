@@ -1,0 +1,10 @@
+-- `frame_bad` meets its contract. Assumes nothing.
+use borrow.Author.Needs.{needs}
+use Rattle.limits.proofs.frame_bad.Statement.{statement}
+use Rattle.limits.proofs.frame_bad.Tie as tie
+
+returns : tie.Need-returns
+returns c = rw (c .rendered .ensures)
+
+pub frame-bad-spec : {M : Type 1} → statement M
+frame-bad-spec = tie.close (tie.spec (λ c κs. search needs) returns)

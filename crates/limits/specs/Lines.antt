@@ -1,0 +1,76 @@
+-- Document 01's table of refusals ("Turned down"), line by line: a test for each cause, over whole numbers. A call lists the lines of the
+-- arguments that it has, in the table's order, and its number is the first that holds. Lengths that only one call asks for are tested
+-- beside its list. Definitions only.
+use mathlib.Core.Bool.{Bool, cond, not, _||_, _&&_}
+use mathlib.Core.List.{List, [], _∷_}
+use Prim.Native.Nat.{ℕ, _+_, _*_, _/_}
+use lib.Dec.{ltb, eqb}
+
+-- the number of the first test that holds, and 0 where none does
+unfoldable pub firstOf : List (Bool × ℕ) → ℕ
+firstOf [] = 0
+firstOf (line ∷ lines) = cond (line .0) (line .1) (firstOf lines)
+
+-- 1: a mode above 69
+abbrev pub badMode : ℕ → Bool
+badMode mode = ltb 69 mode
+
+-- 1: of either slot
+abbrev pub badModes : ℕ → ℕ → Bool
+badModes mode0 mode1 = badMode mode0 || badMode mode1
+
+-- 2: factor not 1, 2, 4 or 8
+abbrev pub badFactor : ℕ → Bool
+badFactor factor = not (eqb factor 1 || eqb factor 2 || eqb factor 4 || eqb factor 8)
+
+-- 3: lane count not 1..64, or active lanes above it
+abbrev pub badLanes : ℕ → ℕ → Bool
+badLanes n active = ltb n 1 || ltb 64 n || ltb n active
+
+-- 3: a single lane not active
+abbrev pub badLane : ℕ → ℕ → Bool
+badLane active lane = not (ltb lane active)
+
+-- 4: block above 4,096 host frames
+abbrev pub badFrames : ℕ → Bool
+badFrames frames = ltb 4096 frames
+
+-- 4: a range past the block's end
+abbrev pub badRange : ℕ → ℕ → ℕ → Bool
+badRange frames first count = ltb frames (first + count)
+
+-- 4: a single rendered frame outside its range, counted from the range's start
+abbrev pub badFrame : ℕ → ℕ → ℕ → Bool
+badFrame factor count frame = not (ltb frame (count * factor))
+
+-- 4: `PhaseRun::stretch`: its first frame lies in the range even where none is asked for, and so do all that are asked for
+abbrev pub badAsked : ℕ → ℕ → ℕ → ℕ → Bool
+badAsked factor count first asked = badFrame factor count first || ltb (count * factor) (first + asked)
+
+-- 5: host rate not 8,000..192,000 whole hertz
+abbrev pub badRate : ℕ → Bool
+badRate rate = ltb rate 8000 || ltb 192000 rate
+
+-- 6: a design's count not 1..12
+abbrev pub badCount : ℕ → Bool
+badCount count = ltb count 1 || ltb 12 count
+
+-- 6: of any of the three, whether the factor uses it or not
+abbrev pub badCounts : ℕ → ℕ → ℕ → Bool
+badCounts count0 count1 count2 = badCount count0 || badCount count1 || badCount count2
+
+-- 7: a read buffer too short. Designs come by value, with all 36 coefficients, or on a slice
+abbrev pub shortCoefs : ℕ → Bool
+shortCoefs coefs = ltb coefs 36
+
+-- 7: sine and arctangent numbers come by value, all 13, or on a slice
+abbrev pub shortNumbers : ℕ → Bool
+shortNumbers have = ltb have 13
+
+-- 7: a given modulation or source; an empty one is absent
+abbrev pub shortLent : ℕ → ℕ → Bool
+shortLent need have = not (eqb have 0) && ltb have need
+
+-- the sub-blocks of 32 host frames in a block, the last of which may be shorter: the rows of each prepared span
+unfoldable pub spansOf : ℕ → ℕ
+spansOf frames = (frames + 31) / 32

@@ -1,0 +1,60 @@
+-- `single::reads_lane` meets its contract. Assumes nothing.
+use mathlib.Core.Path.{sym, _∙_}
+use native.Mathlib.Omega.{arith}
+use borrow.Author.Needs.{needs}
+use denote.Ref.{now}
+use lib.ListN.{length}
+use Rattle.shaper.specs.ReadsCall.{lent, controlLengths}
+use Rattle.shaper.proofs.RefusalLaws.{ReadsAccepted, reads-accepted, driven-of, held-of, fed-of}
+use Rattle.shaper.proofs.CallLaws.{reads-turned-down, reads-done}
+use Rattle.shaper.proofs.single.reads_lane.Statement.{statement}
+use Rattle.shaper.proofs.single.reads_lane.Tie as tie
+
+accepted : (c : tie.Else1)
+    → let a = c .before .before .before .before .before .before .before .before .before .before .before .before .args in
+    ReadsAccepted (a .s) (a .rate) (a .active) (a .lane) (a .r) (a .frame)
+    (controlLengths (lent (now (a .base0)) (now (a .base1)) (now (a .mod0)) (now (a .mod1)) (now (a .source0)) (now (a .source1))))
+    (length (now (a .curve))) (length (now (a .inner))) (length (now (a .fm))) (length (now (a .last)))
+accepted c = reads-accepted _ _ _ _ _ _ _ _ _ _ _ (sym (c .before .reads-refused .ensures) ∙ c .if1 .left)
+
+returns : tie.Need-returns
+returns c =
+    reads-turned-down _ _ _ _ _ _ _ _ _ _ _ _ _ _ _ (c .before .before .reads-refused .ensures) (c .before .if1 .taken) (c .no-reads .ensures)
+
+div-host : tie.Need-div-host
+div-host c = accepted (c .before) .accepted .least
+
+add-host : tie.Need-add-host
+add-host c = let spot = driven-of (accepted (c .before .before) .accepted) .spot in omega (arith, spot .row, spot .block)
+
+cast-host : tie.Need-cast-host
+cast-host c = let spot = driven-of (accepted (c .before .before) .accepted) .spot in omega (arith, spot .row, spot .block)
+
+rem-sub : tie.Need-rem-sub
+rem-sub c = accepted (c .before .before .before) .accepted .least
+
+reads-taken-requires : tie.Need-reads-taken-requires
+reads-taken-requires c κs =
+    let a = accepted (c .before .before .before .before) in
+    (fed-of a, (held-of (a .accepted) 2 _ (a .carry), held-of (a .accepted) 1 _ (omega (arith, a .kept))))
+
+returns-2 : tie.Need-returns-2
+returns-2 c =
+    let test = c .before .before .before .before .before .before .before in
+    let did = c .before .before .reads-taken in
+    reads-done _ _ _ _ _ _ _ _ _ _ _ _ _ (sym (test .before .reads-refused .ensures) ∙ test .if1 .left) (did .ensures) (did .kept .1 .1 .1 .1 .1 .1 .1 .1 .1 .1 .1 .1 .1 .1 .1 .0)
+
+pub reads-lane-spec : {M : Type 1} → statement M
+reads-lane-spec =
+    tie.close
+    (tie.spec
+    (λ c κs. search needs)
+    (λ c κs. search needs)
+    returns
+    div-host
+    add-host
+    cast-host
+    rem-sub
+    reads-taken-requires
+    (λ c. search needs)
+    returns-2)

@@ -1,0 +1,5 @@
+pub mod Lane
+pub mod Refusal
+pub mod ReadsCall
+pub mod SampleCall
+pub mod Taken

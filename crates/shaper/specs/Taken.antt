@@ -1,0 +1,73 @@
+-- The work of a call that is taken: what it asks for, and what it promises of its buffers. `host` is the host frame of the block, `sub`
+-- counts the rendered frames of a host frame. Definitions only.
+use mathlib.Core.Path.{_≡_}
+use mathlib.Core.List.{List}
+use Prim.Native.Nat.{ℕ, _+_, _*_, _≤_, _<_}
+use lib.ListN.{take}
+use lib.Ieee.{Float, nan}
+use Rattle.grid.specs.Functions.{upd}
+use Rattle.grid.specs.Cells.{col, column, columns}
+use Rattle.grid.specs.Lanes.{Each}
+use Rattle.limits.specs.Lines.{spansOf}
+use Rattle.phase.specs.declared.reads.LaneReads.{LaneReads}
+use Rattle.wave.specs.declared.filters.Svf.{Svf}
+use Rattle.voice.specs.declared.phase_run.Reads.{Reads}
+use Rattle.voice.specs.declared.wave_run.Shaped.{Shaped}
+use Rattle.controls.specs.Places.{Spot, Holds}
+use Rattle.shaper.specs.declared.settings.Settings.{Settings}
+use Rattle.shaper.specs.declared.refusal.ControlLengths.{ControlLengths}
+use Rattle.shaper.specs.Lane.{readsAt, shapedAt, pair0, pair1, putPairs, putCarry}
+use Rattle.shaper.specs.ReadsCall.{Lent, laneControls}
+
+-- ---- what is asked for
+
+-- the first rows of a lane of n
+pub record Held (rows n lane have : ℕ) : Type 0 where
+  pub inside : lane < n
+  pub few : n ≤ 64
+  pub held : rows * n ≤ have
+
+-- base, modulation and sources at a host frame
+pub record Driven (s : Settings) (l : ControlLengths) (lane host : ℕ) : Type 0 where
+  pub spot : Spot (s .frames) (s .lanes) lane host
+  pub base0 : s .lanes ≤ l .base0
+  pub base1 : s .lanes ≤ l .base1
+  pub mod0 : Holds (s .frames * s .lanes) (l .mod0)
+  pub mod1 : Holds (s .frames * s .lanes) (l .mod1)
+  pub source0 : Holds (s .frames * s .lanes) (l .source0)
+  pub source1 : Holds (s .frames * s .lanes) (l .source1)
+
+-- and what a read list takes besides
+pub record Fed (s : Settings) (rate : ℕ) (l : ControlLengths) (lane host curve inner : ℕ) : Type 0 where
+  pub driven : Driven s l lane host
+  pub hertz : rate ≤ 192000
+  pub factor : s .factor ≤ 8
+  pub entries : 1025 ≤ curve
+  pub spans : spansOf (s .frames) * s .lanes ≤ inner
+
+-- ---- what is promised
+
+-- the filter pair in rows `row` and row + 1
+abbrev pub pairIn : ℕ → (ℕ → Float) → Svf
+pairIn row pairs = record { ic1 = pairs row; ic2 = pairs (row + 1) }
+
+abbrev pub readsTaken : Settings → ℕ → ℕ → ℕ → ℕ → ℕ → ℕ → Lent → List Float → List Float → List Float → List Float → Reads
+readsTaken s rate lane host sub word step l curve inner fm last =
+    readsAt s rate (laneControls s l lane) (take 1025 curve) (column nan (s .lanes) lane (spansOf (s .frames)) inner) host sub word step
+    (col nan (s .lanes) lane fm 0) (col nan (s .lanes) lane fm 1) (col nan (s .lanes) lane last 0)
+
+-- a read list, and the FM carry stored
+pub record ReadsTaken (s : Settings) (lane : ℕ) (called : Reads) (fm fm' : List Float) (reads : LaneReads) : Type 0 where
+  pub list : reads ≡ called .reads
+  pub carry : Each (s .lanes) lane (lane + 1) (λ _. putCarry (called .fm0) (called .fm1)) (columns nan (s .lanes) fm) (columns nan (s .lanes) fm')
+
+abbrev pub sampleTaken : Settings → ℕ → ℕ → ℕ → ℕ → Float → Lent → List Float → List Float → Shaped
+sampleTaken s lane host sub step x l pairs last =
+    shapedAt s (laneControls s l lane) host sub step x
+    (pair0 (col nan (s .lanes) lane pairs)) (pair1 (col nan (s .lanes) lane pairs)) (col nan (s .lanes) lane last 0)
+
+-- a sample, and the filter pairs and `last` stored
+pub record SampleTaken (s : Settings) (lane : ℕ) (called : Shaped) (pairs last pairs' last' : List Float) (y : Float) : Type 0 where
+  pub value : y ≡ called .y
+  pub filters : Each (s .lanes) lane (lane + 1) (λ _. putPairs (called .pairs0) (called .pairs1)) (columns nan (s .lanes) pairs) (columns nan (s .lanes) pairs')
+  pub kept : Each (s .lanes) lane (lane + 1) (λ _ f. upd f 0 (called .last)) (columns nan (s .lanes) last) (columns nan (s .lanes) last')

@@ -1,0 +1,65 @@
+-- What the steps of `prepare` and of `stretch` ask for. Definitions only.
+use Prim.Native.Nat.{ℕ, _+_, _-_, _*_, _<_, _≤_, max}
+use Rattle.controls.specs.Places.{Holds}
+use Rattle.spans.specs.Asked.{spanOf}
+
+-- a sub-block of k host frames from `from` on, and a lane of n
+pub record Sub (frames n lane from k : ℕ) : Type 0 where
+  pub inside : lane < n
+  pub few : n ≤ 64
+  pub block : frames ≤ 4096
+  pub first : from < frames
+  pub rows : from + k ≤ frames
+
+-- its rows are there
+pub record Rows (frames n lane from k have : ℕ) : Type 0 where
+  pub inside : lane < n
+  pub few : n ≤ 64
+  pub block : frames ≤ 4096
+  pub rows : from + k ≤ frames
+  pub held : frames * n ≤ have
+
+-- sub-block s of a lane: what is read is there
+pub record Prepares (factor rate frames n lane s base0 base1 mod0 mod1 source0 source1 : ℕ) : Type 0 where
+  pub inside : lane < n
+  pub few : n ≤ 64
+  pub block : frames ≤ 4096
+  pub first : s * 32 < frames
+  pub rendered : factor ≤ 8
+  pub hertz : rate ≤ 192000
+  pub bases0 : n ≤ base0
+  pub bases1 : n ≤ base1
+  pub mods0 : Holds (frames * n) mod0
+  pub mods1 : Holds (frames * n) mod1
+  pub sources0 : Holds (frames * n) source0
+  pub sources1 : Holds (frames * n) source1
+
+-- `rows` sub-blocks of every lane: what is read and what is written is there
+pub record Takes (factor rate frames rows n base0 base1 mod0 mod1 source0 source1 inner stretch add : ℕ) : Type 0 where
+  pub few : n ≤ 64
+  pub block : frames ≤ 4096
+  pub last : rows * 32 < frames + 32
+  pub rendered : factor ≤ 8
+  pub hertz : rate ≤ 192000
+  pub bases0 : n ≤ base0
+  pub bases1 : n ≤ base1
+  pub mods0 : Holds (frames * n) mod0
+  pub mods1 : Holds (frames * n) mod1
+  pub sources0 : Holds (frames * n) source0
+  pub sources1 : Holds (frames * n) source1
+  pub inners : rows * n ≤ inner
+  pub stretches : rows * n ≤ stretch
+  pub adds : rows * n ≤ add
+
+-- rendered frames of a range: the sub-blocks that they fall in are rows of a lane's spans
+pub record Asks (factor first rows n lane from asked stretch add : ℕ) : Type 0 where
+  pub inside : lane < n
+  pub few : n ≤ 64
+  pub block : rows ≤ 4096
+  pub rendered : 1 ≤ factor
+  pub range : first ≤ 4096
+  pub frames : from + max asked 1 ≤ 32768
+  pub order : spanOf factor first from ≤ spanOf factor first (from + max asked 1 - 1)
+  pub last : spanOf factor first (from + max asked 1 - 1) < rows
+  pub stretches : rows * n ≤ stretch
+  pub adds : rows * n ≤ add

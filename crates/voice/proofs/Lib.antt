@@ -1,0 +1,4 @@
+-- The laws of the two stages, for the crates above.
+pub mod Counts
+pub mod NotOwn
+pub mod Offsets

@@ -1,0 +1,2 @@
+pub mod PhaseRun
+pub mod WaveRun

@@ -1,0 +1,16 @@
+// The two stages of a render for one lane at one rendered frame, `PhaseRun` and `WaveRun` of mod.rs,
+// with the lane's state in and out by value.
+pub mod control;
+pub mod phase_run;
+pub mod wave_run;
+
+pub use control::Control;
+pub use phase_run::Reads;
+pub use phase_run::fm_exponential;
+pub use phase_run::fm_scale;
+pub use phase_run::in_phase;
+pub use phase_run::is_own;
+pub use phase_run::reads_of;
+pub use wave_run::Shaped;
+pub use wave_run::shape_of;
+pub use wave_run::tracks;

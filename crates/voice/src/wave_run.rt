@@ -1,0 +1,85 @@
+// The wave stage: a lane's sample shaped, with the filter pairs of its two slots and `last`.
+use crate::control::Control;
+use crate::phase_run::is_own;
+use lanes::Numbers;
+use lanes::signed;
+use phase::Slot;
+use wave::Filtered;
+use wave::Svf;
+use wave::in_wave;
+ghost use mathlib.Core.Path.{_≡_};
+ghost use Rattle.floats.specs.Exp2.{entries};
+ghost use Rattle.voice.specs.WaveRun.{tracks, slotOf, shapedOf};
+
+// The sample that goes out, and the state after it.
+pub struct Shaped {
+    pub y: f32,
+    pub pairs0: Svf,
+    pub pairs1: Svf,
+    pub last: f32,
+}
+
+// Whether the raw sample is kept: only if a slot reads it and a slot is in the wave stage.
+pub fn tracks(mode0: u32, mode1: u32) -> bool
+    ensures { λ r. ⌜ r ≡ tracks mode0 mode1 ⌝ }
+{
+    (in_wave(mode0) | in_wave(mode1)) & (is_own(mode0) | is_own(mode1))
+}
+
+fn slot_of(
+    powers: &[u32; 257],
+    numbers: Numbers,
+    slot: Slot,
+    control: Control,
+    increment: f32,
+    x: f32,
+    state: Svf,
+) -> Filtered
+    requires { ⌜ now powers ≡ entries ⌝ }
+    ensures { λ r. ⌜ r ≡ slotOf (numbers .sin) slot control increment x state ⌝ }
+{
+    let setting = wave::setting_of(
+        powers,
+        slot.mode,
+        control.amount,
+        slot.character,
+        control.sourced,
+        control.source,
+    );
+    wave::shape(powers, numbers, slot.mode, setting, increment, x, state)
+}
+
+// The sample `x` of a lane at one rendered frame, shaped by slot 0 and then slot 1.
+pub fn shape_of(
+    powers: &[u32; 257],
+    numbers: Numbers,
+    slot0: Slot,
+    slot1: Slot,
+    control0: Control,
+    control1: Control,
+    step: u32,
+    x: f32,
+    pairs0: Svf,
+    pairs1: Svf,
+    last: f32,
+) -> Shaped
+    requires { ⌜ now powers ≡ entries ⌝ }
+    ensures { λ r. ⌜ r ≡ shapedOf (numbers .sin) slot0 slot1 control0 control1 step x pairs0 pairs1 last ⌝ }
+{
+    let increment = signed(step);
+    let kept = if tracks(slot0.mode, slot1.mode) {
+        x
+    } else {
+        last
+    };
+    let first = slot_of(powers, numbers, slot0, control0, increment, x, pairs0);
+    let second = slot_of(powers, numbers, slot1, control1, increment, first.y, pairs1);
+    let state0 = first.state;
+    let state1 = second.state;
+    Shaped {
+        y: second.y,
+        pairs0: state0,
+        pairs1: state1,
+        last: kept,
+    }
+}
