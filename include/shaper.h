@@ -1,7 +1,8 @@
 /* The voice card's shaper, for C. Link libcard.a (`rt staticlib card`).
  *
- * A buffer is a pointer and a count of its numbers. It holds rows of `lanes` numbers: a lane's number in a row lies at
- * row * lanes + lane. An empty buffer may come as NULL with count 0. The library keeps no pointer past a call, allocates nothing and has
+ * A buffer is a pointer and a count of its numbers. Buffers by frame, spans and what lanes carry hold rows of `lanes` numbers: a lane's
+ * number in a row lies at row * lanes + lane. Of `lanes` lanes (1..64) the first `active` take part in a call, possibly none; no cell of
+ * another lane is touched, nor any past the lengths below. An empty buffer may come as NULL with count 0. The library keeps no pointer past a call, allocates nothing and has
  * no state of its own: buffers are the caller's before, during and after a call. Two buffers of one call must not overlap where one of
  * them is written; if they do, the fault is the caller's and nothing is promised.
  */
@@ -31,7 +32,7 @@ struct shaper_answer {
     uint32_t frames;
 };
 
-/* The same with the number that a call answers: 0 where it is turned down. */
+/* The same with a value, which is 0 where the call is turned down. */
 struct shaper_valued {
     uint32_t number;
     uint32_t frames;
@@ -43,16 +44,17 @@ struct shaper_valued {
  *
  *   mode0, mode1      the slots' modes, 0..69
  *   factor            1, 2, 4 or 8: rendered frames to a host frame
- *   lanes, active     as below; lanes 0 to active - 1 are prepared
+ *   lanes, active     lanes 0 to active - 1 are prepared
  *   frames            the block's host frames, 0..4096
  *   rate              the host rate in whole hertz, 8000..192000
  *   base0, base1      read, at least lanes: a slot's amount in percent, knob plus the lane's offset
  *   mod0, mod1        read, at least frames * lanes, or empty where the slot has none: what is added to the amount, by host frame
- *   source0, source1  read, the same: what the slot hears. An empty one is absent, and a modulated mode then does nothing
+ *   source0, source1  read, the same: what the slot hears. An empty one is absent, and a modulated mode then does nothing. Mode 57 hears
+ *                     the lane's own last sample, and only where a source is given; of that source's numbers only `add` is made
  *   curve             read, at least 1025: the remap curve's values
  *   inner             written, a span: slot 1's steepest slope. A block run reads it
- *   stretch, add      written, spans: the steepest slope of both slots, and what the modes with a source add to it, in words a rendered
- *                     frame. shaper_stretch reads them
+ *   stretch, add      written, spans: the steepest slope of both slots (times the factor where a slot is a distortion), and what the modes
+ *                     with a source add to it, in words a rendered frame. shaper_stretch reads them
  *
  * A span has at least (frames + 31) / 32 * lanes numbers. Answers the block's frames. */
 struct shaper_answer shaper_prepare(
@@ -62,21 +64,60 @@ struct shaper_answer shaper_prepare(
     const float *curve, size_t curve_length, float *inner, size_t inner_length, float *stretch, size_t stretch_length, float *add,
     size_t add_length);
 
-/* How much faster than its phase a lane reads over some rendered frames of a range: at least 1. A host picks a band-limited cycle by it.
+/* How much faster than its phase a lane reads over some rendered frames of a range: at least 1, if the call is accepted. A host picks a
+ * band-limited cycle by it.
  *
- *   lane                a single lane, below active
+ *   factor, lanes       1, 2, 4 or 8; 1..64
+ *   active, lane        at most lanes; a single lane, below active
  *   frames              the block's host frames, 0..4096
  *   first, count        the range: its first host frame, and how many
  *   asked_first, asked  the rendered frames, counted from the range's start (count * factor of them lie in it). Asked for none, the call
  *                       looks at asked_first, which must lie in the range as well
  *   step                the lane's phase step, in words a rendered frame
- *   stretch, add        read, the spans that shaper_prepare wrote for the block
+ *   stretch, add        read, the spans that shaper_prepare wrote for the block, at least (frames + 31) / 32 * lanes each
  *
  * Answers the range's frames. */
 struct shaper_valued shaper_stretch(
     uint32_t factor, uint32_t lanes, uint32_t active, uint32_t lane, uint32_t frames, uint32_t first, uint32_t count,
     uint32_t asked_first, uint32_t asked, uint32_t step, const float *stretch, size_t stretch_length, const float *add,
     size_t add_length);
+
+/* Renders host frames first to first + count - 1 of a block, at `factor` times the host rate, and decimates them to the host rate: for each
+ * rendered frame and each active lane a list of reads of the cycle, their sum, and the sample shaped by slot 0 and then slot 1.
+ *
+ *   mode0, mode1            the slots' modes, 0..69
+ *   character0, character1  the slots' characters
+ *   factor, lanes, active   as in shaper_decimate
+ *   frames                  the block's host frames, 0..4096
+ *   first, count            the range; first + count is at most frames. It may be empty
+ *   rate                    the host rate in whole hertz, 8000..192000
+ *   count0..count2, coefs   the designs, as in shaper_decimate
+ *   numbers                 read, at least 13: the sine's five numbers and the arctangent's eight (shaper_numbers)
+ *   base0 .. curve          read, as in shaper_prepare
+ *   cycle                   read, at least 2048: one cycle of the wave, read at entry word / 2^21
+ *   words, steps            read, at least frames * factor * lanes each: phase words (2^32 is one cycle) and how far they move in a rendered
+ *                           frame, by rendered frame of the block
+ *   inner                   read, the span that shaper_prepare wrote for the block, at least (frames + 31) / 32 * lanes
+ *   output                  written, at least frames * lanes: the rows first to first + count - 1 of the active lanes, by host frame of the
+ *                           block
+ *   work                    written, at least count * factor * lanes: scratch for the rendered frames of the range, whose contents need not
+ *                           be kept
+ *   pairs, fm, last, state  written, at least 4, 2, 1 and 72 times lanes: what each lane carries from one call to the next, its filters'
+ *                           numbers, its FM offsets in cycles, the raw sample that it read last (kept only where one slot's mode is 57 and the
+ *                           other acts on the sample), and the decimator's cells. Zeros start a lane
+ *
+ * A block may be run in any consecutive ranges, with refused calls among them: a lane that is active in all accepted calls has the same
+ * output and the same state as from one call, NaN counting as one value, provided that the other arguments stay and the spans are prepared
+ * once for the block. Output rows outside the range are not touched. Answers the range's frames. */
+struct shaper_answer shaper_block_run(
+    uint32_t mode0, uint32_t mode1, float character0, float character1, uint32_t factor, uint32_t lanes, uint32_t active, uint32_t frames,
+    uint32_t first, uint32_t count, uint32_t rate, uint32_t count0, uint32_t count1, uint32_t count2, const float *coefs,
+    size_t coefs_length, const float *numbers, size_t numbers_length, const float *base0, size_t base0_length, const float *base1,
+    size_t base1_length, const float *mod0, size_t mod0_length, const float *mod1, size_t mod1_length, const float *source0,
+    size_t source0_length, const float *source1, size_t source1_length, const float *curve, size_t curve_length, const float *cycle,
+    size_t cycle_length, const uint32_t *words, size_t words_length, const uint32_t *steps, size_t steps_length, const float *inner,
+    size_t inner_length, float *output, size_t output_length, float *work, size_t work_length, float *pairs, size_t pairs_length, float *fm,
+    size_t fm_length, float *last, size_t last_length, float *state, size_t state_length);
 
 /* Decimates `buffer` in place by `factor`.
  *
@@ -107,6 +148,11 @@ static const float shaper_card_coefs[36] = {
     0.035724986f, 0.13916272f, 0.30249274f, 0.5226143f, 0.81379634f, 0.0f, 0.0f, 0.0f, 0.0f, 0.0f, 0.0f, 0.0f};
 
 static const uint32_t shaper_card_counts[3] = {10, 6, 5};
+
+/* The sine and arctangent numbers, as `numbers` takes them. */
+static const float shaper_numbers[13] = {
+    1.0f, -0.16666648f, 0.008332899f, -0.0001980083f, 2.5903703e-6f,
+    1.0f, -0.33333334f, 0.2f, -0.14285715f, 0.11111111f, -0.09090909f, 0.07692308f, -0.06666667f};
 
 #ifdef __cplusplus
 }

@@ -5,7 +5,7 @@ use crate::card::{self, Answer};
 use crate::guards::{GUARDS, differs, sets, unchanged};
 use crate::tally::{self, Tally};
 use programs::Generator;
-use programs::decimations::{Shape, cells, designs};
+use programs::decimations::{Shape, cells, designs, numbers};
 use ruled::api::halfband::{self as oracle, Design};
 
 /// Cells of a state in a row of lanes.
@@ -13,12 +13,6 @@ const STATE_ROWS: usize = 72;
 
 fn rows(shape: Shape) -> usize {
     (shape.frames * shape.factor) as usize
-}
-
-/// The designs as the library takes them: counts and 36 coefficients.
-fn numbers(designs: &[Design; 3]) -> ([u32; 3], Vec<f32>) {
-    let counts = designs.map(|d| d.count as u32);
-    (counts, designs.iter().flat_map(|d| d.coefs).collect())
 }
 
 /// Drawn numbers of a call. Most are small, so that there are many; some have up to 64 lanes or some

@@ -15,7 +15,7 @@ pub fn differs(got: &[f32], want: &[f32]) -> Option<usize> {
 
 /// The first of the cells to be left that isn't the same, NaN or not.
 pub fn unchanged(got: &[f32], before: &[f32], left: impl Fn(usize) -> bool) -> Option<usize> {
-    (0..got.len()).find(|&i| left(i) && got[i].to_bits() != before[i].to_bits())
+    (0..got.len()).find(|&i| got[i].to_bits() != before[i].to_bits() && left(i))
 }
 
 /// Hands `each` all sets of up to `most` causes that set different arguments, by their places: the

@@ -1,10 +1,12 @@
-//! Each leaf's time as a ratio to the oracle's, and that of read lists, of slots of the wave side and of
-//! decimations, in one run: both behind a call that is not inlined, on the same inputs. The oracle is the
-//! copy with the added rules.
+//! Each leaf's time as a ratio to the oracle's, and that of read lists, of slots of the wave side, of
+//! decimations and of block runs, in one run: both behind a call that is not inlined, on the same inputs.
+//! The oracle is the copy with the added rules.
+
+pub mod blocks;
 
 use crate::card;
 use crate::probe::{self, NUMBERS, Slots, WaveSlot};
-use programs::decimations::{Shape, cells};
+use programs::decimations::{Shape, cells, numbers};
 use programs::{Generator, lookup_table, tame};
 use ruled::api::halfband;
 use ruled::api::phase::{self, Slot};
@@ -293,8 +295,7 @@ fn shapes() {
 /// same samples.
 fn decimations() {
     let designs = halfband::designs();
-    let counts = designs.map(|d| d.count as u32);
-    let coefs: Vec<f32> = designs.iter().flat_map(|d| d.coefs).collect();
+    let (counts, coefs) = numbers(&designs);
     println!("decimation, all lanes active: ns an output frame, the oracle's, the ratio");
     for factor in [2, 4, 8] {
         for lanes in [1, 16, 64] {
@@ -335,4 +336,5 @@ pub fn table() {
     reads();
     shapes();
     decimations();
+    blocks::table();
 }

@@ -1,6 +1,6 @@
 -- Document 01's table of refusals ("Turned down"), line by line: a test for each cause, over whole numbers. A call lists the lines of the
--- arguments that it has, in the table's order, and its number is the first that holds. Lengths that only one call asks for are tested
--- beside its list. Definitions only.
+-- arguments that it has, in the table's order, and its number is the first that holds. Lengths are compared
+-- with what a call asks for beside its list. Definitions only.
 use mathlib.Core.Bool.{Bool, cond, not, _||_, _&&_}
 use mathlib.Core.List.{List, [], _∷_}
 use Prim.Native.Nat.{ℕ, _+_, _*_, _/_}

@@ -4,7 +4,8 @@ ghost use mathlib.Core.Path.{_≡_};
 ghost use Prim.Native.Nat.{_*_, _≤_};
 ghost use Rattle.limits.specs.Lines.{badMode, badModes, badFactor, badLanes, badLane, badFrames, badRange, badFrame, badAsked, badRate, badCount, badCounts, shortCoefs, shortNumbers, shortLent, spansOf};
 
-// The number by which a call is turned down, 0 where it is accepted, and the frames that it made.
+// The number by which a call is turned down, 0 where it is accepted, and its frames, 0 where it is turned
+// down.
 #[repr(C)]
 pub struct Answer {
     pub number: u32,

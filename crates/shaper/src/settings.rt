@@ -1,4 +1,5 @@
-// The numbers of a call that belong to no lane.
+// The numbers that the calls about a lane share and that belong to no lane. The host rate stands beside
+// them, since the shaped sample takes none.
 use lanes::Numbers;
 use phase::Slot;
 

@@ -75,7 +75,7 @@ fn designs(seed: u32, counts: u32, coefs: &[f32; 36]) -> Designs {
 }
 
 // Cells' patterns put to the hash.
-fn folded_cells(h: u64, cells: &[f32]) -> u64 {
+pub fn folded_cells(h: u64, cells: &[f32]) -> u64 {
     let mut h = h;
     for i in 0..cells.len() {
         h = folded(h, pattern(cells[i]));

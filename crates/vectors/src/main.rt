@@ -1,10 +1,13 @@
 // Replays the oracle's stored answers (stdin, a line each) and prints how many of them the library
 // gives: "P of T". The lines are those of `leaf_vectors`, `phase_vectors`,
-// `wave_vectors` and `decimate_vectors` of oracle/programs, which has their format.
+// `wave_vectors`, `decimate_vectors` and `single_vectors` of oracle/programs, which has their format.
 mod answer;
+mod calls;
 mod decimations;
 mod phases;
 mod random;
+mod singles;
+mod stretches;
 mod text;
 mod waves;
 
@@ -13,7 +16,7 @@ use decimations::DecimateRun;
 use floats::POWERS;
 use libc::STDIN_FILENO;
 use libc::STDOUT_FILENO;
-use phases::ReadsRun;
+use random::ModesRun;
 use random::Run;
 use waves::WaveRun;
 ghost use mathlib.Core.Path.{_≡_};
@@ -48,17 +51,36 @@ fn decimated(a: u32, b: u32) -> Hashed {
     }
 }
 
+fn modes_run(a: u32, b: u32) -> ModesRun {
+    ModesRun {
+        mode0: b / 0x1_0000 % 0x100,
+        mode1: b / 0x100_0000,
+        seed: a,
+        count: b % 0x1_0000,
+    }
+}
+
+// Calls about one lane or about a block's spans.
+fn called(table: &[f32; 1025], op: u32, a: u32, b: u32) -> Hashed {
+    let run = modes_run(a, b);
+    let hash = match op {
+        0x50 => singles::reads_lane_hash(table, run),
+        0x51 => singles::shape_lane_hash(run),
+        0x52 => stretches::prepare_hash(run),
+        _ => stretches::stretch_hash(run),
+    };
+    Hashed {
+        count: run.count as u64,
+        hash,
+    }
+}
+
 // A run of read lists has two modes beside its count, one of a sequence of samples a mode and a flag.
 fn ran(powers: &[u32; 257], table: &[f32; 1025], op: u32, a: u32, b: u32) -> Hashed
     requires { ⌜ now powers ≡ entries ⌝ }
 {
     if op == 0x29 {
-        let run = ReadsRun {
-            mode0: b / 0x1_0000 % 0x100,
-            mode1: b / 0x100_0000,
-            seed: a,
-            count: b % 0x1_0000,
-        };
+        let run = modes_run(a, b);
         Hashed {
             count: run.count as u64,
             hash: phases::reads_hash(powers, table, run),
@@ -76,6 +98,8 @@ fn ran(powers: &[u32; 257], table: &[f32; 1025], op: u32, a: u32, b: u32) -> Has
         }
     } else if op == 0x40 {
         decimated(a, b)
+    } else if op >= 0x50 {
+        called(table, op, a, b)
     } else {
         let run = Run {
             op,

@@ -2,6 +2,7 @@
 // cases are remade from a seed.
 use crate::answer::float;
 use crate::answer::pattern;
+use crate::random::ModesRun;
 use crate::random::folded;
 use crate::random::next;
 use floats::nearest_u32;
@@ -104,7 +105,7 @@ fn slope_entry(seed: u32, draw: u32, size: f32) -> f32 {
 }
 
 // The table of a seed: 1,025 numbers from 0 to 2^-6 or less.
-fn slope_table(seed: u32) -> [f32; 1025] {
+pub fn slope_table(seed: u32) -> [f32; 1025] {
     let size = float((157 + seed / 2 % 8) * 0x80_0000);
     let mut t = [0.0; 1025];
     let mut s = seed;
@@ -215,7 +216,7 @@ fn half_width(draw: u32) -> f32 {
 }
 
 // What slot 1 stretches slot 0's half width by: 1, or 1/16 to 16.
-fn inner_stretch(draw: u32) -> f32 {
+pub fn inner_stretch(draw: u32) -> f32 {
     if draw % 4 == 0 {
         1.0
     } else {
@@ -224,7 +225,7 @@ fn inner_stretch(draw: u32) -> f32 {
 }
 
 // The floats that a rule may end at.
-fn special(draw: u32) -> f32 {
+pub fn special(draw: u32) -> f32 {
     match draw >> 28 {
         0 => 0.0,
         1 => -0.0,
@@ -258,7 +259,7 @@ pub fn chosen(seed: u32, how: u32, draw: u32, tame: f32) -> f32 {
 }
 
 // Up to 128 words on from `word` or back from it.
-fn around(word: u32, draw: u32) -> u32 {
+pub fn around(word: u32, draw: u32) -> u32 {
     std::num::wrapping_sub_u32(std::num::wrapping_add_u32(word, draw % 256), 128)
 }
 
@@ -332,7 +333,7 @@ fn reads(powers: &[u32; 257], table: &[f32; 1025], mode0: u32, mode1: u32, c: Ca
 }
 
 // A read list as nine words put to the hash: its words, its gains' patterns, its count.
-fn folded_reads(h: u64, reads: LaneReads) -> u64 {
+pub fn folded_reads(h: u64, reads: LaneReads) -> u64 {
     let phase = reads.phase;
     let gain = reads.gain;
     let h = folded(h, phase[0]);
@@ -346,15 +347,8 @@ fn folded_reads(h: u64, reads: LaneReads) -> u64 {
     folded(h, (reads.count % 0x1_0000_0000) as u32)
 }
 
-// Read lists of two modes and of `count` cases drawn from `seed`.
-pub struct ReadsRun {
-    pub mode0: u32,
-    pub mode1: u32,
-    pub seed: u32,
-    pub count: u32,
-}
-
-pub fn reads_hash(powers: &[u32; 257], table: &[f32; 1025], run: ReadsRun) -> u64
+// Read lists of two modes.
+pub fn reads_hash(powers: &[u32; 257], table: &[f32; 1025], run: ModesRun) -> u64
     requires { ⌜ now powers ≡ entries ⌝ }
 {
     let mode0 = run.mode0;

@@ -11,6 +11,14 @@ pub struct Run {
     pub count: u32,
 }
 
+// `count` cases of two modes, fewer than 2^16, drawn from `seed`.
+pub struct ModesRun {
+    pub mode0: u32,
+    pub mode1: u32,
+    pub seed: u32,
+    pub count: u32,
+}
+
 // The next state of a 32-bit xorshift generator.
 pub fn next(s: u32) -> u32 {
     let s = s ^ (s << 13);

@@ -81,7 +81,7 @@ fn drawn(s: u32) -> Draws {
 }
 
 // 0, 50, 100, or a number from 0 to 128.
-fn percent(draw: u32) -> f32 {
+pub fn percent(draw: u32) -> f32 {
     match draw % 8 {
         0 => 0.0,
         1 => 50.0,
@@ -91,7 +91,7 @@ fn percent(draw: u32) -> f32 {
 }
 
 // A number from -1 to 1.
-fn sample(draw: u32) -> f32 {
+pub fn sample(draw: u32) -> f32 {
     nearest_u32(draw >> 8) / 8388608.0 - 1.0
 }
 

@@ -21,7 +21,7 @@ ghost use Rattle.floats.specs.Exp2.{entries};
 ghost use Rattle.modes.specs.Facts.{thruZero, exponential, linear};
 ghost use Rattle.voice.specs.PhaseRun.{inPhase, isOwn, fmExponential, fmScale, fmCycles, carriedOn, fmOffset, offsetOf, movedOf, mapSlot, listOf, readsOf};
 
-// The top of FM's range.
+// FM's scale: the deviation at amount 1 and source 1.
 const FM_MAX_HZ: f32 = 83_750.0;
 
 // Phase distortion's reach.
@@ -49,7 +49,7 @@ pub struct Reads {
     pub fm1: f32,
 }
 
-// Whether a slot with this mode moves the read.
+// Whether a slot with this mode acts on the read list.
 pub fn in_phase(mode: u32) -> bool
     ensures { λ r. ⌜ r ≡ inPhase mode ⌝ }
 {

@@ -75,6 +75,23 @@ pub fn designs(generator: &mut Generator, is_wild: bool) -> [Design; 3] {
     })
 }
 
+/// A run's designs, drawn, wild ones if the seed is odd; of seeds with 0 in
+/// bits 1 and 2 the card's, after the same draws.
+pub fn seeded(generator: &mut Generator, seed: u32) -> [Design; 3] {
+    let drawn = designs(generator, seed & 1 == 1);
+    match seed >> 1 & 3 {
+        0 => halfband::designs(),
+        _ => drawn,
+    }
+}
+
+/// Designs as the library takes them: counts and 36 coefficients.
+#[must_use]
+pub fn numbers(designs: &[Design; 3]) -> ([u32; 3], Vec<f32>) {
+    let counts = designs.map(|d| d.count as u32);
+    (counts, designs.iter().flat_map(|d| d.coefs).collect())
+}
+
 /// As many cells.
 pub fn cells(generator: &mut Generator, count: usize, is_wild: bool) -> Vec<f32> {
     (0..count)
@@ -84,18 +101,12 @@ pub fn cells(generator: &mut Generator, count: usize, is_wild: bool) -> Vec<f32>
 
 /// The hash of what a call leaves: all cells of the buffer and of the state,
 /// then its number and its frames. Designs, buffer and state are drawn from
-/// `seed`, wild ones if it is odd; of seeds with 0 in bits 1 and 2 the card's
-/// designs are taken instead.
+/// `seed`, wild ones if it is odd.
 #[must_use]
 pub fn run(seed: u32, shape: Shape) -> u64 {
     let mut generator = Generator(seed);
     let is_wild = seed & 1 == 1;
-    let drawn = designs(&mut generator, is_wild);
-    let designs = if seed >> 1 & 3 == 0 {
-        halfband::designs()
-    } else {
-        drawn
-    };
+    let designs = seeded(&mut generator, seed);
     let mut buffer = cells(&mut generator, BUFFER, is_wild);
     let mut state = cells(&mut generator, STATE, is_wild);
     let [factor, lanes, active, frames] =

@@ -1,7 +1,8 @@
 //! What the vector programs share: the generator, the hash, the leaves
 //! by operation code, and the cases of the phase side, the wave side, the
-//! decimator and the single calls.
+//! decimator, the single calls and the block run.
 
+pub mod blocks;
 pub mod decimations;
 pub mod phases;
 pub mod singles;

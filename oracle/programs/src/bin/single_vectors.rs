@@ -40,14 +40,14 @@ fn modes(kind: Kind) -> Vec<[u32; 2]> {
     match kind {
         Kind::Reads => every.chain(of_stage(1, 17)).collect(),
         Kind::Sample => every.chain(of_stage(2, 11)).chain(OWN).collect(),
-        Kind::Prepare => every.collect(),
         Kind::Stretch => vec![[0; 2]; 24],
+        _ => every.collect(),
     }
 }
 
 fn main() {
     let mut line = 0x300u32;
-    for (i, kind) in Kind::ALL.into_iter().enumerate() {
+    for (i, kind) in Kind::SINGLES.into_iter().enumerate() {
         for (place, [mode0, mode1]) in modes(kind).into_iter().enumerate() {
             // Odd in turn, a mode's second run unlike its first.
             let odd = match kind {
@@ -58,8 +58,8 @@ fn main() {
             let seed = line.wrapping_mul(0x9e37_79b1) & !1 | odd & 1;
             let count = match kind {
                 Kind::Reads | Kind::Sample => 24,
-                Kind::Prepare => 8,
                 Kind::Stretch => 64,
+                _ => 8,
             };
             let hash = run(kind, [mode0, mode1], seed, count);
             println!(

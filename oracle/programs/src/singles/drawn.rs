@@ -2,15 +2,14 @@
 //! another program can make the same, as in [`phases`](crate::phases).
 
 use super::{Buffer, Buffers, Call, Kind, Lengths};
+use crate::decimations::coefficient;
 use crate::phases::{fraction, inner_stretch, slope_table, special};
 use crate::waves::{percent, sample};
-use crate::{Generator, Hash, lookup_table, pattern};
+use crate::{Generator, Hash, lookup_table};
 
-use Buffer::{
-    Add, Base0, Base1, Curve, Fm, Inner, Last, Mod0, Mod1, Pairs, Source0, Source1, Stretch,
-};
+use Buffer::{Add, Base0, Base1, Coefs, Curve, Fm, Inner, Mod0, Mod1, Stretch};
 
-/// The code of the first [`Kind`], less 80.
+/// The code of the first of [`Kind::SINGLES`], less 80.
 pub const FIRST: usize = 0x50;
 
 /// The most lanes and host frames that a run's calls have.
@@ -30,7 +29,8 @@ impl Buffer {
             Inner | Stretch => inner_stretch(draw),
             Add => slope(draw),
             Fm => (f32::from_bits(sample(draw)) * 0.5).to_bits(),
-            Source0 | Source1 | Pairs | Last => sample(draw),
+            Coefs => coefficient(draw, false).to_bits(),
+            _ => sample(draw),
         };
         cell(draw, is_wild, tame)
     }
@@ -104,8 +104,8 @@ impl Draws {
         self.how >> (8 + 2 * place) & 3 != 0
     }
 
-    /// What is wrong with a run's call; from 13 on nothing.
-    fn fault(&self) -> u32 {
+    /// What is wrong with a run's call; from 15 on nothing.
+    pub(crate) fn fault(&self) -> u32 {
         self.how >> 26
     }
 }
@@ -121,7 +121,7 @@ fn word(how: u32, draw: u32) -> u32 {
 }
 
 /// Words a rendered frame: 0, to 1/64 of a cycle, or any in a wild call.
-fn step(draw: u32, is_wild: bool) -> u32 {
+pub(crate) fn step(draw: u32, is_wild: bool) -> u32 {
     match draw & 7 {
         0 => 0,
         _ if is_wild => draw,
@@ -144,7 +144,8 @@ fn asked(how: u32, draw: u32, frame: u32, edge: u32, rendered: u32) -> u32 {
 }
 
 impl Call {
-    /// The call of some draws. The table passes all of its numbers.
+    /// The call of some draws. The table passes all of its numbers. The
+    /// designs' counts are the card's.
     #[must_use]
     pub fn of(draws: &Draws, modes: [u32; 2], is_wild: bool, most: Most) -> Self {
         let &Draws {
@@ -175,24 +176,26 @@ impl Call {
             frame,
             asked: asked(how >> 18, draws.place >> 2, frame, edge, count * factor),
             rate: 8000 + draws.rate % 184_001,
+            counts: [10, 6, 5],
             word: word(how >> 16, draws.place),
             step: step(draws.step, is_wild),
             x: cell(draws.x, is_wild, sample(draws.x)),
         }
     }
 
-    /// A run's call with the number that a fault sets; from 11 on as it is.
-    fn with_fault(mut self, fault: u32) -> Self {
+    /// A run's call with the numbers that a fault sets, of which a kind has
+    /// some or none; from 11 on as it is.
+    pub(crate) fn with_fault(mut self, fault: u32) -> Self {
         match fault {
             0 => self.modes[0] = 70,
             1 => self.modes[1] = 70,
             2 => self.factor = 3,
             3 => self.active = self.lanes + 1,
-            4 => self.lane = self.active,
+            4 => (self.lane, self.counts[0]) = (self.active, 13),
             5 => self.active = 0,
             6 => self.frames = 0,
             7 => self.count = self.frames - self.first + 1,
-            8 => (self.frame, self.asked) = (self.rendered(), 0),
+            8 => (self.frame, self.asked, self.counts[2]) = (self.rendered(), 0, 0),
             9 => self.rate = 7999,
             10 => self.asked = self.rendered() - self.frame + 1,
             _ => {}
@@ -202,23 +205,32 @@ impl Call {
 }
 
 /// The lengths that a run's call is lent: whole buffers, but none of what
-/// isn't given, and of the call's first or last buffer one cell less than
-/// it asks for by fault 11 or 12.
-fn lengths(kind: Kind, call: &Call, draws: &Draws, cells: &Buffers) -> Lengths {
-    let buffers = kind.buffers();
-    let fault = draws.fault();
+/// isn't given, and of the short one a cell less than the call asks for.
+pub(crate) fn lengths(
+    call: &Call,
+    gives: impl Fn(u32) -> bool,
+    short: Option<Buffer>,
+    cells: &Buffers,
+) -> Lengths {
+    let whole = cells.lengths();
     Buffer::ALL.map(|buffer| {
-        let is_absent = buffer.optional().is_some_and(|i| !draws.gives(i));
-        let is_short = fault == 11 && buffer == buffers[0]
-            || fault == 12 && buffer == buffers[buffers.len() - 1];
-        if is_absent {
+        if buffer.optional().is_some_and(|i| !gives(i)) {
             0
-        } else if is_short {
+        } else if short == Some(buffer) {
             buffer.asked(call) as usize - 1
         } else {
-            cells.0[buffer as usize].len()
+            whole[buffer as usize]
         }
     })
+}
+
+/// The buffer that is short by a fault: the call's first or last.
+fn short(kind: Kind, fault: u32) -> Option<Buffer> {
+    match fault {
+        11 => kind.buffers().first().copied(),
+        12 => kind.buffers().last().copied(),
+        _ => None,
+    }
 }
 
 /// The hash of `count` calls drawn from `seed`, wild ones if it is odd:
@@ -237,24 +249,18 @@ pub fn run(kind: Kind, modes: [u32; 2], seed: u32, count: u32) -> u64 {
         _ => lookup_table(),
     };
     let length = |buffer: Buffer| buffer.asked(&largest) as usize;
-    let mut cells = Buffers::new(kind, length, |buffer, i| match buffer {
+    let mut cells = Buffers::new(kind.buffers(), length, |buffer, i| match buffer {
         Curve => curve[i],
         _ => buffer.cell(generator.draw(), is_wild),
     });
     let mut hash = Hash::default();
     for _ in 0..count {
         let draws = Draws::new(&mut generator);
+        let fault = draws.fault();
         let call = Call::of(&draws, modes, is_wild, MOST);
-        let lengths = lengths(kind, &call, &draws, &cells);
-        let call = call.with_fault(draws.fault());
-        for word in cells.lend(&lengths).answer(kind, &call) {
-            hash.fold(word);
-        }
-        for &buffer in kind.changed() {
-            for &x in &cells.0[buffer as usize] {
-                hash.fold(pattern(x));
-            }
-        }
+        let lengths = lengths(&call, |i| draws.gives(i), short(kind, fault), &cells);
+        let answer = cells.lend(&lengths).answer(kind, &call.with_fault(fault));
+        cells.fold(kind, &answer, &mut hash);
     }
     hash.0
 }

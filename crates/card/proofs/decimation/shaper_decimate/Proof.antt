@@ -7,8 +7,8 @@ use Rattle.halfband.specs.Floats.{designsOf}
 use Rattle.halfband.specs.Decimated.{callNumber}
 use Rattle.halfband.proofs.RefusalLaws.{accepted}
 use Rattle.halfband.proofs.DecimatedLaws.{turned-down, of-slice}
-use Rattle.card.proofs.shaper_decimate.Statement.{statement}
-use Rattle.card.proofs.shaper_decimate.Tie as tie
+use Rattle.card.proofs.decimation.shaper_decimate.Statement.{statement}
+use Rattle.card.proofs.decimation.shaper_decimate.Tie as tie
 
 returns : tie.Need-returns
 unfolding designsOf

@@ -1,14 +1,15 @@
 //! Every cause of a refusal by document 01's table, with the neighbour that passes.
 
-use super::{Floats, Lending};
 use crate::guards::{GUARDS, sets, unchanged};
+use crate::lending::{Floats, Lending};
 use crate::tally::Tally;
 use programs::Generator;
+use programs::blocks::{angles, rows};
 use programs::singles::{Buffer, Buffers, Call, Kind, Lengths, refusal};
 
 /// What a cause sets.
 #[derive(Clone, Copy, Debug, PartialEq, Eq)]
-enum Argument {
+pub enum Argument {
     Mode0,
     Mode1,
     Factor,
@@ -20,6 +21,9 @@ enum Argument {
     Frame,
     Asked,
     Rate,
+    Count0,
+    Count1,
+    Count2,
     Cells(Buffer),
 }
 
@@ -28,9 +32,11 @@ impl Argument {
         match self {
             Self::Mode0 | Self::Mode1 => kind != Kind::Stretch,
             Self::Factor | Self::Lanes | Self::Active | Self::Frames => true,
-            Self::Lane | Self::Range | Self::Frame => kind != Kind::Prepare,
+            Self::Lane | Self::Frame => kind.is_single(),
+            Self::Range => kind != Kind::Prepare,
             Self::Asked => kind == Kind::Stretch,
-            Self::Rate => matches!(kind, Kind::Reads | Kind::Prepare),
+            Self::Rate => matches!(kind, Kind::Reads | Kind::Prepare | Kind::Run),
+            Self::Count0 | Self::Count1 | Self::Count2 => kind == Kind::Run,
             Self::Cells(buffer) => kind.buffers().contains(&buffer),
         }
     }
@@ -42,8 +48,12 @@ type NumberCause = (u32, Argument, fn(&mut Call));
 /// The line of what some calls refuse and others pass.
 const OPEN: u32 = u32::MAX;
 
+/// The line of a range with no frames: 4 in a call about one of them, and open in a run, whose work
+/// buffer then can't be too short.
+const EMPTY: u32 = OPEN - 1;
+
 /// Those that set a number. Later ones go by what earlier ones have set.
-const NUMBER_CAUSES: [NumberCause; 63] = {
+const NUMBER_CAUSES: [NumberCause; 78] = {
     use Argument::*;
     [
         (0, Mode0, |c| c.modes[0] = 69),
@@ -88,8 +98,8 @@ const NUMBER_CAUSES: [NumberCause; 63] = {
         (0, Range, |c| c.count = c.frames.wrapping_sub(c.first)),
         (4, Range, |c| c.count = c.frames.wrapping_sub(c.first).wrapping_add(1)),
         (0, Range, |c| (c.first, c.count, c.frame, c.asked) = (0, 1, 0, 1)),
-        (4, Range, |c| c.count = 0),
-        (4, Range, |c| (c.first, c.count) = (c.frames, 0)),
+        (EMPTY, Range, |c| c.count = 0),
+        (EMPTY, Range, |c| (c.first, c.count) = (c.frames, 0)),
         (4, Range, |c| (c.first, c.count) = (c.frames.wrapping_add(1), 0)),
         (4, Range, |c| (c.first, c.count) = (u32::MAX, 1)),
         (4, Range, |c| (c.first, c.count) = (1, u32::MAX)),
@@ -109,21 +119,37 @@ const NUMBER_CAUSES: [NumberCause; 63] = {
         (0, Rate, |c| c.rate = 192_000),
         (5, Rate, |c| c.rate = 192_001),
         (5, Rate, |c| c.rate = u32::MAX),
+        (6, Count0, |c| c.counts[0] = 0),
+        (0, Count0, |c| c.counts[0] = 1),
+        (0, Count0, |c| c.counts[0] = 12),
+        (6, Count0, |c| c.counts[0] = 13),
+        (6, Count0, |c| c.counts[0] = u32::MAX),
+        (6, Count1, |c| c.counts[1] = 0),
+        (0, Count1, |c| c.counts[1] = 1),
+        (0, Count1, |c| c.counts[1] = 12),
+        (6, Count1, |c| c.counts[1] = 13),
+        (6, Count1, |c| c.counts[1] = u32::MAX),
+        (6, Count2, |c| c.counts[2] = 0),
+        (0, Count2, |c| c.counts[2] = 1),
+        (0, Count2, |c| c.counts[2] = 12),
+        (6, Count2, |c| c.counts[2] = 13),
+        (6, Count2, |c| c.counts[2] = u32::MAX),
     ]
 };
 
-struct Cause {
+pub struct Cause {
     line: u32,
     argument: Argument,
-    set: Box<dyn Fn(&mut Asked)>,
+    pub set: Box<dyn Fn(&mut Asked)>,
 }
 
 const ALL: usize = usize::MAX;
 
 /// The causes of a kind: its numbers', and one cell or all cells lacking of each of its buffers.
-fn causes(kind: Kind) -> Vec<Cause> {
+pub fn causes(kind: Kind) -> Vec<Cause> {
+    let empty = if kind.is_single() { 4 } else { OPEN };
     let numbers = NUMBER_CAUSES.into_iter().map(|(line, argument, set)| Cause {
-        line,
+        line: if line == EMPTY { empty } else { line },
         argument,
         set: Box::new(move |asked| set(&mut asked.call)),
     });
@@ -142,17 +168,23 @@ fn causes(kind: Kind) -> Vec<Cause> {
 
 /// A call that is right but for the causes that are put in.
 #[derive(Clone, Copy, Debug)]
-struct Asked {
-    call: Call,
-    lacking: Lengths,
+pub struct Asked {
+    pub call: Call,
+    pub lacking: Lengths,
 }
 
 impl Asked {
+    /// Nothing is lacking.
+    pub fn new(call: Call) -> Self {
+        Self { call, lacking: [0; Buffer::ALL.len()] }
+    }
+
     /// The lengths that are lent: what the numbers ask for, those that are refused cut down, less what
     /// is lacking.
     fn lengths(&self, kind: Kind) -> Lengths {
-        let Call { lanes, frames, .. } = self.call;
-        let call = Call { lanes: lanes.min(65), frames: frames.min(4097), ..self.call };
+        let Call { factor, lanes, frames, count, .. } = self.call;
+        let [frames, count] = [frames, count].map(|x| x.min(4097));
+        let call = Call { factor: factor.min(9), lanes: lanes.min(65), frames, count, ..self.call };
         Buffer::ALL.map(|buffer| {
             let is_lent = kind.buffers().contains(&buffer);
             let asked = if is_lent { buffer.asked(&call) as usize } else { 0 };
@@ -166,6 +198,7 @@ impl Asked {
 fn right(kind: Kind) -> [Asked; 3] {
     let modes = match kind {
         Kind::Sample => [58, 21],
+        Kind::Run => [39, 21],
         _ => [39, 12],
     };
     let call = Call {
@@ -181,25 +214,33 @@ fn right(kind: Kind) -> [Asked; 3] {
         frame: 9,
         asked: 3,
         rate: 48_000,
+        counts: [10, 6, 5],
         word: 0x1234_5678,
         step: 0x0123_4567,
         x: 0.625,
     };
-    let long = Call { factor: 8, lanes: 2, active: 2, lane: 1, frames: 4096, first: 4000, count: 96, ..call };
+    // a run writes rows of all of them
+    let (frames, count) = if kind == Kind::Run { (192, 24) } else { (4096, 96) };
+    let long = Call { factor: 8, lanes: 2, active: 2, lane: 1, frames, first: frames - count, count, ..call };
     let least = Call { factor: 1, lanes: 1, active: 1, lane: 0, frames: 1, first: 0, count: 1, ..call };
     let least = Call { frame: 0, asked: 1, ..least };
-    [call, long, least].map(|call| Asked { call, lacking: [0; Buffer::ALL.len()] })
+    [call, long, least].map(Asked::new)
 }
 
-/// Buffers that are large enough for every call of a refusal.
+/// Buffers that are large enough for every call of a refusal. The oracle has its own sine and arctangent
+/// numbers.
 fn largest(kind: Kind, g: &mut Generator) -> Lending {
-    let most = Call { lanes: 65, frames: 4097, ..right(kind)[0].call };
+    let most = Call { factor: 9, lanes: 65, frames: 4097, count: 4097, ..right(kind)[0].call };
     let length = |buffer: Buffer| buffer.asked(&most) as usize + GUARDS;
-    Lending {
-        kind,
-        cells: Buffers::new(kind, length, |buffer, _| Floats::Mixed.cell(buffer, g)),
-        lengths: [0; Buffer::ALL.len()],
+    let angles = angles();
+    let mut cells = Buffers::new(kind.buffers(), length, |buffer, i| match angles.get(i) {
+        Some(&number) if buffer == Buffer::Numbers => number,
+        _ => Floats::Mixed.cell(buffer, g),
+    });
+    if kind == Kind::Run {
+        cells.words = rows(g, length(Buffer::Words), 8, false);
     }
+    Lending { kind, cells, lengths: [0; Buffer::ALL.len()] }
 }
 
 /// The line of some causes together, where it can be told from theirs.
@@ -225,11 +266,17 @@ fn refused(right: &Asked, causes: &[&Cause], is_told: bool, lending: &mut Lendin
     lending.compare(&asked.call, tally);
 }
 
+/// Some of them, in their order: each with the same chance, which is drawn too.
+pub fn some<'a>(causes: &'a [Cause], g: &mut Generator) -> Vec<&'a Cause> {
+    let share = 4 + (g.draw() >> 8) % 28;
+    causes.iter().filter(|_| (g.draw() >> 8).is_multiple_of(share)).collect()
+}
+
 /// For each kind no cause, every cause alone and every two; and some drawn ones together. The read
 /// buffers are as they were after all of it.
-pub fn compare(count: u64, tally: &mut Tally) {
+pub fn compare(kinds: &[Kind], count: u64, tally: &mut Tally) {
     let mut g = Generator(0x1656_67b1);
-    for kind in Kind::ALL {
+    for &kind in kinds {
         let causes = causes(kind);
         let arguments: Vec<Argument> = causes.iter().map(|cause| cause.argument).collect();
         let mut lending = largest(kind, &mut g);
@@ -240,15 +287,15 @@ pub fn compare(count: u64, tally: &mut Tally) {
                 refused(right, &set, i < 2, &mut lending, tally);
             });
             for _ in 0..count / 8 {
-                let share = 4 + (g.draw() >> 8) % 28;
-                let set: Vec<&Cause> = causes.iter().filter(|_| (g.draw() >> 8).is_multiple_of(share)).collect();
-                refused(right, &set, false, &mut lending, tally);
+                refused(right, &some(&causes, &mut g), false, &mut lending, tally);
             }
         }
         for buffer in Buffer::ALL.into_iter().take(Buffer::Inner as usize) {
-            let [after, before] = [&lending.cells, &before].map(|cells| &cells.0[buffer as usize]);
+            let [after, before] = [&lending.cells, &before].map(|cells| &cells.floats[buffer as usize]);
             let wrong = unchanged(after, before, |_| true);
             tally.case(wrong.is_none(), || format!("{buffer:?} after all refusals of {kind:?}: cell {wrong:?}"));
         }
+        let is_same = lending.cells.words == before.words;
+        tally.case(is_same, || format!("words or steps after all refusals of {kind:?}"));
     }
 }

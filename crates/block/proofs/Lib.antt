@@ -1,0 +1,7 @@
+-- The laws of the block run: its refusals (RefusalLaws), its lanes one after another (SharedLaws), what it promises (CallLaws), its
+-- numbers on slices (NumberLaws), and that its contract leaves no cell open (Unique).
+pub mod RefusalLaws
+pub mod SharedLaws
+pub mod CallLaws
+pub mod NumberLaws
+pub mod Unique

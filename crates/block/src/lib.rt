@@ -1,0 +1,12 @@
+// The run of any range of a block: a read list, the sum of its reads and the shaped sample for each
+// rendered frame of each active lane, the decimation, and the copy to the range's output rows.
+pub mod refusal;
+pub mod run;
+pub mod slices;
+
+pub use refusal::ReadLengths;
+pub use refusal::WriteLengths;
+pub use refusal::refused;
+pub use render::BlockSettings;
+pub use run::block_run;
+pub use slices::block_run_on;

@@ -1,0 +1,78 @@
+-- A block that there is: 6 host frames of 2 lanes at factor 4, one lane active, in one call and in two. Assumes nothing.
+use mathlib.Core.Path.{_≡_, refl}
+use mathlib.Core.List.{[], _∷_}
+use native.Mathlib.Omega.{arith}
+use lib.ListN.{replicate}
+use Rattle.floats.specs.F32.{0f, half}
+use Rattle.lanes.specs.Numbers.{rustNumbers}
+use Rattle.limits.specs.Lines.{firstOf, spansOf}
+use Rattle.halfband.specs.Floats.{cardDesigns}
+use Rattle.render.specs.declared.cells.BlockSettings.{BlockSettings}
+use Rattle.render.specs.Lane.{Lent}
+use Rattle.render.specs.Share.{Buffers}
+use Rattle.block.specs.Refusal.{blockRefusal}
+use Rattle.block.specs.Call.{Call, readLengths, writeLengths}
+use Rattle.cuts.specs.Cuts.{leaving, RunA, Agree, Demand3}
+use Rattle.cuts.proofs.Made.{made}
+use Rattle.cuts.proofs.Runs.{range, whole, firstPart, secondPart, in-two}
+use Rattle.cuts.proofs.Cuts.{cuts}
+
+settings : BlockSettings
+settings =
+    record {
+      shaper =
+          record {
+            slot0 = record { mode = 1; character = half };
+            slot1 = record { mode = 69; character = 0f };
+            factor = 4;
+            lanes = 2;
+            frames = 6;
+            numbers = rustNumbers;
+          };
+      rate = 48000;
+      designs = cardDesigns;
+    }
+
+-- modulation of slot 0, the source of slot 1
+lent : Lent
+lent =
+    record {
+      base0 = replicate 2 half;
+      base1 = replicate 2 half;
+      mod0 = replicate 12 half;
+      mod1 = [];
+      source0 = [];
+      source1 = replicate 12 half;
+      curve = replicate 1025 half;
+      cycle = replicate 2048 half;
+      words = replicate 48 0;
+      steps = replicate 48 1;
+      inner = replicate 2 half;
+    }
+
+before : Buffers
+before =
+    record {
+      output = replicate 12 0f;
+      work = replicate 48 0f;
+      pairs = replicate 8 0f;
+      fm = replicate 4 0f;
+      last = replicate 2 0f;
+      dec = replicate 144 0f;
+    }
+
+passes-all : blockRefusal settings (range 0 6) 1 (readLengths 36 13 lent) (writeLengths before) ≡ 0
+unfolding settings lent before blockRefusal firstOf cardDesigns spansOf
+passes-all = refl
+
+pub example : Call
+example = made settings (range 0 6) 1 36 13 lent before
+
+pub example-runs : RunA example 0
+unfolding example settings
+example-runs = whole settings 1 36 13 lent before 0 passes-all (omega arith)
+
+-- and demand 3 speaks of it
+pub example-cut : Agree example 0 (firstPart example 4 ∷ secondPart example 4 ∷ []) (leaving (secondPart example 4) 0)
+unfolding Demand3 example settings
+example-cut = cuts example 0 _ _ example-runs (in-two example 0 example-runs 4 (omega arith))

@@ -1,0 +1,138 @@
+-- Demand 3 is about runs that there are: all arguments that pass the table make a Run A; Run A by itself is a Run B; with no host frame
+-- the empty list is one; and however a block is cut, the calls for its parts, one after another in the same buffers, are one.
+-- Assumes nothing.
+use mathlib.Core.Path.{_≡_, refl, sym, _∙_, subst}
+use mathlib.Core.List.{List, [], _∷_}
+use Prim.Native.Nat.{ℕ, _+_, _-_, _*_, _<_, _≤_}
+use native.Mathlib.Nat.{zero-add, add-zero, add-assoc, mul-le-mul-right}
+use native.Mathlib.Omega.{arith}
+use lib.Ieee.{Float}
+use borrow.Author.Tests.{le-ltb}
+use Rattle.halfband.specs.Ranges.{total}
+use Rattle.shaper.specs.declared.settings.Range.{Range}
+use Rattle.render.specs.declared.cells.BlockSettings.{BlockSettings}
+use Rattle.render.specs.Lane.{Lent}
+use Rattle.render.specs.Share.{Buffers}
+use Rattle.render.specs.Promises.{Writable}
+use Rattle.block.specs.Refusal.{blockRefusal}
+use Rattle.block.specs.Call.{Call, Meets, readLengths, writeLengths, numberOf, lanesOf}
+use Rattle.block.proofs.RefusalLaws.{Passed, passes, line-block, writable, not-short, call-passed}
+use Rattle.cuts.specs.Cuts.{stateOf, entering, leaving, kept-back, RunA, RunB, end, refuse, accept}
+use Rattle.cuts.proofs.Made.{made, met-by, made-sizes}
+
+abbrev pub range : ℕ → ℕ → Range
+range at count = record { first = at; count = count }
+
+-- ---- Run A
+
+-- any arguments that pass the table, for the whole block, make one
+pub whole : (settings : BlockSettings) (active coefs numbers : ℕ) (lent : Lent) (before : Buffers) (lane : ℕ)
+    → blockRefusal settings (range 0 (settings .shaper .frames)) active (readLengths coefs numbers lent) (writeLengths before) ≡ 0
+    → lane < active → RunA (made settings (range 0 (settings .shaper .frames)) active coefs numbers lent before) lane
+unfolding numberOf
+whole settings active coefs numbers lent before lane ok on =
+    record {
+      meets = met-by settings (range 0 (settings .shaper .frames)) active coefs numbers lent before;
+      accepted = ok;
+      active = on;
+      first = refl;
+      count = refl;
+    }
+
+-- ---- Run B
+
+pub alone : (a : Call) (lane : ℕ) → RunA a lane → RunB a lane 0 (entering a lane) (a ∷ []) (leaving a lane)
+alone a lane w =
+    accept a (w .meets) (w .accepted) (record { settings = refl; inputs = refl; active = w .active }) (w .first) refl
+    (end (zero-add _ ∙ w .count) refl)
+
+pub none : (a : Call) (lane : ℕ) → a .settings .shaper .frames ≡ 0 → RunB a lane 0 (entering a lane) [] (entering a lane)
+none a lane e = end (sym e) refl
+
+-- a refused call in front, with the lane's state kept back
+pub refused-first : (a : Call) (lane at : ℕ) (s e : List Float) (cs : List Call) (c : Call) → Meets c → (numberOf c ≡ 0 → ⊥)
+    → RunB a lane at s cs e → RunB a lane at s (c ∷ cs) e
+refused-first a lane at s e cs c m bad run = refuse c m bad (record { size = refl; cells = λ i h. kept-back refl }) run
+
+-- ---- parts
+
+-- Run A's call for `count` host frames from `at` on, in other buffers
+abbrev pub part : Call → ℕ → ℕ → Buffers → Call
+part a at count before = made (a .settings) (range at count) (a .active) (a .coefs) (a .numbers) (a .lent) before
+
+-- the first m host frames, and those after them in the buffers that they leave
+abbrev pub firstPart : Call → ℕ → Call
+firstPart a m = part a 0 m (a .before)
+
+abbrev pub secondPart : Call → ℕ → Call
+secondPart a m = part a m (a .settings .shaper .frames - m) (firstPart a m .after)
+
+-- parts one after another, each in the buffers that the one before left
+unfoldable pub parts : Call → ℕ → Buffers → List ℕ → List Call
+parts a at before [] = []
+parts a at before (k ∷ ks) = part a at k before ∷ parts a (at + k) (part a at k before .after) ks
+
+-- and what they leave
+unfoldable pub partsLeave : Call → ℕ → Buffers → List ℕ → Buffers
+partsLeave a at before [] = before
+partsLeave a at before (k ∷ ks) = partsLeave a (at + k) (part a at k before .after) ks
+
+module _ (a : Call) (lane : ℕ) (w : RunA a lane) where
+  abbrev F : ℕ
+  F = a .settings .shaper .frames
+
+  lines : Passed (a .settings) (a .range) (a .active) (readLengths (a .coefs) (a .numbers) (a .lent)) (writeLengths (a .before))
+  lines = call-passed a (w .accepted)
+
+  -- what Run A is lent to write is long enough for each part
+  part-held : (at k : ℕ) → at + k ≤ F → Writable (a .settings .shaper) (range at k) (a .before)
+  part-held at k fit =
+      let h = writable (a .settings .shaper) (a .range) (a .before) (lines .written) in
+      let rows : k * a .settings .shaper .factor ≤ F * a .settings .shaper .factor = mul-le-mul-right _ (omega arith) in
+      let work : F * a .settings .shaper .factor * lanesOf a ≤ writeLengths (a .before) .work =
+      subst (λ (c : ℕ). c * a .settings .shaper .factor * lanesOf a ≤ writeLengths (a .before) .work) (w .count) (h .work) in
+      record {
+        output = h .output;
+        work = omega (arith, mul-le-mul-right (lanesOf a) rows);
+        pairs = h .pairs;
+        fm = h .fm;
+        last = h .last;
+        dec = h .dec;
+      }
+
+  pub part-accepted : (at k : ℕ) (before : Buffers) → at + k ≤ F → writeLengths before ≡ writeLengths (a .before)
+      → numberOf (part a at k before) ≡ 0
+  unfolding numberOf
+  part-accepted at k before fit size =
+      rw size
+      (passes (a .settings) (range at k) (a .active) _ _
+      (record {
+        modes = lines .modes;
+        factors = lines .factors;
+        lanes = lines .lanes;
+        ranges = rw (line-block (a .settings .shaper) (a .range) (lines .ranges)) (le-ltb F (at + k) fit);
+        rates = lines .rates;
+        counts = lines .counts;
+        read = lines .read;
+        written = not-short (a .settings .shaper) (range at k) (a .before) (part-held at k fit);
+      }))
+
+  pub in-parts-from : (at : ℕ) (before : Buffers) (ks : List ℕ) → at + total ks ≡ F → writeLengths before ≡ writeLengths (a .before)
+      → RunB a lane at (stateOf (lanesOf a) lane before) (parts a at before ks) (stateOf (lanesOf a) lane (partsLeave a at before ks))
+  unfolding parts partsLeave total
+  in-parts-from at before [] fit size = end (sym (add-zero at) ∙ fit) refl
+  in-parts-from at before (k ∷ ks) fit size =
+      accept (part a at k before) (met-by _ _ _ _ _ _ before) (part-accepted at k before (omega arith) size)
+      (record { settings = refl; inputs = refl; active = w .active }) refl refl
+      (in-parts-from (at + k) (part a at k before .after) ks (add-assoc at k (total ks) ∙ fit) (made-sizes _ _ _ _ _ _ before ∙ size))
+
+  -- a block in any parts
+  pub in-parts : (ks : List ℕ) → total ks ≡ F
+      → RunB a lane 0 (entering a lane) (parts a 0 (a .before) ks) (stateOf (lanesOf a) lane (partsLeave a 0 (a .before) ks))
+  in-parts ks fit = in-parts-from 0 (a .before) ks (zero-add _ ∙ fit) refl
+
+  -- and in two
+  pub in-two : (m : ℕ) → m ≤ F → RunB a lane 0 (entering a lane) (firstPart a m ∷ secondPart a m ∷ [])
+      (leaving (secondPart a m) lane)
+  unfolding parts partsLeave total
+  in-two m h = rw zero-add at (in-parts (m ∷ (F - m) ∷ []) (omega arith))

@@ -1,0 +1,47 @@
+-- `load_host` meets its contract. Assumes nothing.
+use Prim.Native.Nat.{_<_}
+use native.Mathlib.Omega.{arith}
+use denote.Ref.{now}
+use lib.ListN.{length}
+use borrow.Author.Needs.{needs}
+use Rattle.limits.proofs.LineLaws.{span-in}
+use Rattle.render.specs.Frames.{hostAt}
+use Rattle.render.proofs.InputLaws.{row-read, slope-in, slope-near}
+use Rattle.render.proofs.frames.load_host.Statement.{statement}
+use Rattle.render.proofs.frames.load_host.Tie as tie
+
+abbrev start : tie.After-place → tie.Start
+start c = c .before .before .before .before .before .before .before .before .before .before .before .before
+
+near : (c : tie.After-place) → c .place .result < 8192
+near c = rw (c .place .ensures) (slope-near (start c .pre))
+
+at-in : (c : tie.After-place) → c .place .result < length (now (start c .args .inner))
+at-in c = omega (arith, c .place .ensures, slope-in (start c .pre))
+
+returns : tie.Need-returns
+unfolding hostAt
+returns c =
+    rw (
+      row-read _ _ _ _ _ _ (span-in _ _ (start (c .before) .pre .spot .row)),
+      ← c .before .before .before .before .amount-at .ensures,
+      ← c .before .before .amount-at2 .ensures,
+      ← c .before .place .ensures,
+    )
+
+pub load-host-spec : {M : Type 1} → statement M
+load-host-spec =
+    tie.close
+    (tie.spec
+    (λ c. search needs)
+    (λ c. search needs)
+    (λ c. search needs)
+    (λ c. search needs)
+    (λ c κs. search needs)
+    (λ c. search needs)
+    (λ c. search needs)
+    (λ c κs. search needs)
+    (λ c κs. search needs)
+    (λ c. omega (arith, near c))
+    (λ c. at-in (c .before))
+    returns)

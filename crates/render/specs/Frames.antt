@@ -1,0 +1,106 @@
+-- A rendered frame as the code takes it, with what holds for a whole host frame worked out before; what its steps ask for, and what a run
+-- of frames promises. Definitions only.
+use mathlib.Core.Path.{_≡_}
+use mathlib.Core.List.{List}
+use mathlib.Core.Option.{Option}
+use Prim.Native.Nat.{ℕ, _+_, _*_, _/_, _≤_, _<_}
+use lib.ListN.{length, getD}
+use lib.Ieee.{Float, nan}
+use Rattle.floats.specs.Steps.{_>>=_}
+use Rattle.grid.specs.Functions.{span}
+use Rattle.grid.specs.Cells.{columns}
+use Rattle.grid.specs.Lanes.{Each}
+use Rattle.limits.specs.Lines.{spansOf}
+use Rattle.halfband.specs.declared.design.Designs.{Designs}
+use Rattle.phase.specs.Reads.{readSum}
+use Rattle.voice.specs.declared.control.Control.{Control}
+use Rattle.voice.specs.PhaseRun.{fmScale, readsOf}
+use Rattle.voice.specs.WaveRun.{shapedOf}
+use Rattle.controls.specs.Controls.{isGiven, amountAt, heardAt}
+use Rattle.controls.specs.Places.{Spot, Holds}
+use Rattle.shaper.specs.declared.settings.Settings.{Settings}
+use Rattle.render.specs.declared.cells.BlockSettings.{BlockSettings}
+use Rattle.render.specs.declared.cells.Voice.{Voice}
+use Rattle.render.specs.declared.cells.Stepped.{Stepped}
+use Rattle.render.specs.declared.cells.HostFrame.{HostFrame}
+use Rattle.render.specs.Lane.{Inputs, voiceAfter, sampleAt}
+
+-- one rendered frame, from what drives the slots, the prepared slope, the phase word and its step
+unfoldable pub frameOf : Settings → Float → List Float → List Float → Control → Control → Float → ℕ → ℕ → Voice → Stepped
+frameOf s scale curve cycle control0 control1 inner word step v = do
+  reads ← readsOf (s .numbers .sin) (s .numbers .atan) curve (s .slot0) (s .slot1) (s .factor) scale control0 control1 inner word step (v .fm0) (v .fm1)
+  x ← readSum cycle (reads .reads)
+  shaped ← shapedOf (s .numbers .sin) (s .slot0) (s .slot1) control0 control1 step x (v .pairs0) (v .pairs1) (v .last)
+  record {
+    sample = shaped .y;
+    voice = record { pairs0 = shaped .pairs0; pairs1 = shaped .pairs1; fm0 = reads .fm0; fm1 = reads .fm1; last = shaped .last };
+  }
+
+-- what holds for a whole host frame
+unfoldable pub hostAt : Float → Float → Option (List Float) → Option (List Float) → List Float → ℕ → HostFrame
+hostAt base0 base1 mod0 mod1 inner host =
+    record { amount0 = amountAt base0 mod0 host; amount1 = amountAt base1 mod1 host; inner = getD inner (host / 32) nan }
+
+-- a slot's amount, and what it hears
+abbrev pub heardControl : ℕ → Settings → Float → Option (List Float) → Float → ℕ → ℕ → Control
+heardControl mode s amount source last host sub =
+    record { amount = amount; sourced = isGiven source; source = heardAt mode (s .factor) (s .frames) source last host sub }
+
+-- rendered frame `sub` of host frame `host`
+unfoldable pub frameAt : Settings → Float → HostFrame → Option (List Float) → Option (List Float) → List Float → List Float → List ℕ → List ℕ → ℕ → ℕ → Voice → Stepped
+frameAt s scale h source0 source1 curve cycle words steps host sub v = do
+  control0 ← heardControl (s .slot0 .mode) s (h .amount0) source0 (v .last) host sub
+  control1 ← heardControl (s .slot1 .mode) s (h .amount1) source1 (v .last) host sub
+  frameOf s scale curve cycle control0 control1 (h .inner) (getD words (host * s .factor + sub) 0) (getD steps (host * s .factor + sub) 0) v
+
+-- ---- what is asked for
+
+-- a host frame of a lane
+pub record Hosted (s : Settings) (lane host base0 base1 mod0 mod1 inner : ℕ) : Type 0 where
+  pub spot : Spot (s .frames) (s .lanes) lane host
+  pub first : s .lanes ≤ base0
+  pub second : s .lanes ≤ base1
+  pub held0 : Holds (s .frames * s .lanes) mod0
+  pub held1 : Holds (s .frames * s .lanes) mod1
+  pub spans : spansOf (s .frames) * s .lanes ≤ inner
+
+-- a rendered frame of a lane: its cells of words and steps are there
+pub record Framed (s : Settings) (lane host sub source0 source1 curve cycle words steps : ℕ) : Type 0 where
+  pub spot : Spot (s .frames) (s .lanes) lane host
+  pub held0 : Holds (s .frames * s .lanes) source0
+  pub held1 : Holds (s .frames * s .lanes) source1
+  pub entries : 1025 ≤ curve
+  pub samples : 2048 ≤ cycle
+  pub inside : host * s .factor + sub < s .frames * s .factor
+  pub few : s .frames * s .factor ≤ 32768
+  pub near : (host * s .factor + sub) * s .lanes + lane < 2097152
+  pub word : (host * s .factor + sub) * s .lanes + lane < words
+  pub step : (host * s .factor + sub) * s .lanes + lane < steps
+
+-- tables that are cut to what line 7 asks for
+pub record Cut (curve cycle : ℕ) : Type 0 where
+  pub entries : curve ≡ 1025
+  pub samples : cycle ≡ 2048
+
+-- the work rows of a host frame
+pub record Room (s : Settings) (lane host row work : ℕ) : Type 0 where
+  pub spot : Spot (s .frames) (s .lanes) lane host
+  pub most : s .factor ≤ 8
+  pub few : row + s .factor ≤ 32768
+  pub rows : (row + s .factor) * s .lanes ≤ work
+
+-- ---- what is promised
+
+-- k rendered frames from q on are in the lane's work rows from `row` on, and v' is its state after them
+pub record Frames (b : BlockSettings) (i : Inputs) (lane q row k : ℕ) (v v' : Voice) (work work' : List Float) : Type 0 where
+  pub size : length work' ≡ length work
+  pub voice : v' ≡ voiceAfter b i q v k
+  pub rows :
+      Each (b .shaper .lanes) lane (lane + 1) (λ _. span row k (sampleAt b i q v))
+      (columns nan (b .shaper .lanes) work) (columns nan (b .shaper .lanes) work')
+
+-- the same of every block with these settings and this reach of FM: of a block's rate and designs no frame takes more
+abbrev pub Ran : Settings → Float → Inputs → ℕ → ℕ → ℕ → ℕ → Voice → Voice → List Float → List Float → Type 0
+Ran s scale i lane q row k v v' work work' =
+    (rate : ℕ) (designs : Designs) → scale ≡ fmScale rate (s .factor)
+    → Frames (record { shaper = s; rate = rate; designs = designs }) i lane q row k v v' work work'

@@ -1,0 +1,4 @@
+pub mod Lane
+pub mod Share
+pub mod Promises
+pub mod Frames

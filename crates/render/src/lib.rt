@@ -1,0 +1,10 @@
+// One lane's whole share of a range of a block: `render_oversampled` of mod.rs, lane by lane.
+pub mod cells;
+pub mod frames;
+pub mod lane;
+
+pub use cells::BlockSettings;
+pub use cells::HostFrame;
+pub use cells::Stepped;
+pub use cells::Voice;
+pub use lane::run_lane;

@@ -1,0 +1,194 @@
+// Runs of the calls about one lane: their buffers and then their calls are remade from a seed, the calls
+// one after the other on the same buffers, and a hash takes what each answers and leaves.
+use crate::answer::pattern;
+use crate::calls::Call;
+use crate::calls::Draws;
+use crate::calls::Kind;
+use crate::calls::Lent;
+use crate::calls::call_of;
+use crate::calls::draw_kind;
+use crate::calls::drawn;
+use crate::calls::lent_of;
+use crate::calls::part;
+use crate::decimations::folded_cells;
+use crate::phases::folded_reads;
+use crate::random::ModesRun;
+use crate::random::folded;
+use limits::Valued;
+use phase::Slot;
+use shaper::Range;
+use shaper::ReadsAnswer;
+use shaper::Settings;
+ghost use Prim.Native.Nat.{_≤_};
+ghost use lib.ListN.{length};
+
+fn settings(c: Call) -> Settings {
+    let slot0 = Slot {
+        mode: c.mode0,
+        character: c.character0,
+    };
+    let slot1 = Slot {
+        mode: c.mode1,
+        character: c.character1,
+    };
+    Settings {
+        slot0,
+        slot1,
+        factor: c.factor,
+        lanes: c.lanes,
+        frames: c.frames,
+        numbers: lanes::rust_numbers(),
+    }
+}
+
+fn reads_lane(
+    c: Call,
+    l: Lent,
+    table: &[f32; 1025],
+    controls: &[f32; 1160],
+    inner: &[f32; 12],
+    fm: &mut [f32; 8],
+    last: &[f32; 4],
+) -> ReadsAnswer {
+    shaper::reads_lane(
+        settings(c),
+        c.rate,
+        c.active,
+        c.lane,
+        Range {
+            first: c.first,
+            count: c.count,
+        },
+        c.frame,
+        c.word,
+        c.step,
+        part(controls, 0, l.base0),
+        part(controls, 4, 4),
+        part(controls, 8, l.mod0),
+        part(controls, 296, l.mod1),
+        part(controls, 584, l.source0),
+        part(controls, 872, l.source1),
+        table,
+        inner,
+        fm,
+        part(last, 0, l.last),
+    )
+}
+
+fn folded_list(h: u64, a: ReadsAnswer) -> u64 {
+    let reads = a.reads;
+    let h = folded(h, a.number);
+    let h = folded(h, a.frames);
+    folded_reads(h, reads)
+}
+
+// A call, put to the hash.
+fn reads_turn(
+    run: ModesRun,
+    d: Draws,
+    h: u64,
+    table: &[f32; 1025],
+    controls: &[f32; 1160],
+    inner: &[f32; 12],
+    fm: &mut [f32; 8],
+    last: &[f32; 4],
+) -> u64 {
+    let c = call_of(run, d);
+    let l = lent_of(d);
+    let a = reads_lane(c, l, table, controls, inner, fm, last);
+    folded_cells(folded_list(h, a), fm)
+}
+
+pub fn reads_lane_hash(table: &[f32; 1025], run: ModesRun) -> u64 {
+    let seed = run.seed;
+    let count = run.count % 0x1_0000;
+    let mut controls = [0.0; 1160];
+    let mut inner = [0.0; 12];
+    let mut fm = [0.0; 8];
+    let mut last = [0.0; 4];
+    let mut s = draw_kind(seed, Kind::Controls, seed, &mut controls);
+    s = draw_kind(seed, Kind::Stretch, s, &mut inner);
+    s = draw_kind(seed, Kind::Half, s, &mut fm);
+    s = draw_kind(seed, Kind::Sample, s, &mut last);
+    let mut h: u64 = 0xcbf2_9ce4_8422_2325;
+    for _ in 0..count {
+        let d = drawn(s);
+        s = d.x;
+        h = reads_turn(run, d, h, table, &controls, &inner, &mut fm, &last);
+    }
+    h
+}
+
+// The first `n` cells of `last` are lent.
+fn shape_lane(
+    c: Call,
+    l: Lent,
+    controls: &[f32; 1160],
+    pairs: &mut [f32; 16],
+    last: &mut [f32],
+    n: usize,
+) -> Valued
+    requires { ⌜ n ≤ length (now last) ⌝ }
+{
+    let zero = 0usize;
+    let last = &mut last[zero..n];
+    shaper::shape_at_lane(
+        settings(c),
+        c.active,
+        c.lane,
+        Range {
+            first: c.first,
+            count: c.count,
+        },
+        c.frame,
+        c.step,
+        c.x,
+        part(controls, 0, l.base0),
+        part(controls, 4, 4),
+        part(controls, 8, l.mod0),
+        part(controls, 296, l.mod1),
+        part(controls, 584, l.source0),
+        part(controls, 872, l.source1),
+        pairs,
+        last,
+    )
+}
+
+pub fn folded_value(h: u64, a: Valued) -> u64 {
+    let h = folded(h, a.number);
+    let h = folded(h, a.frames);
+    folded(h, pattern(a.value))
+}
+
+fn shape_turn(
+    run: ModesRun,
+    d: Draws,
+    h: u64,
+    controls: &[f32; 1160],
+    pairs: &mut [f32; 16],
+    last: &mut [f32; 4],
+) -> u64 {
+    let c = call_of(run, d);
+    let l = lent_of(d);
+    let a = shape_lane(c, l, controls, pairs, last, l.last % 5);
+    let h = folded_cells(folded_value(h, a), pairs);
+    folded_cells(h, last)
+}
+
+pub fn shape_lane_hash(run: ModesRun) -> u64 {
+    let seed = run.seed;
+    let count = run.count % 0x1_0000;
+    let mut controls = [0.0; 1160];
+    let mut pairs = [0.0; 16];
+    let mut last = [0.0; 4];
+    let mut s = draw_kind(seed, Kind::Controls, seed, &mut controls);
+    s = draw_kind(seed, Kind::Sample, s, &mut pairs);
+    s = draw_kind(seed, Kind::Sample, s, &mut last);
+    let mut h: u64 = 0xcbf2_9ce4_8422_2325;
+    for _ in 0..count {
+        let d = drawn(s);
+        s = d.x;
+        h = shape_turn(run, d, h, &controls, &mut pairs, &mut last);
+    }
+    h
+}

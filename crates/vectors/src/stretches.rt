@@ -1,0 +1,137 @@
+// Runs of the calls about a block's spans, made and hashed as those of singles.rt.
+use crate::calls::Call;
+use crate::calls::Draws;
+use crate::calls::Kind;
+use crate::calls::Lent;
+use crate::calls::call_of;
+use crate::calls::draw_kind;
+use crate::calls::drawn;
+use crate::calls::lent_of;
+use crate::calls::part;
+use crate::decimations::folded_cells;
+use crate::phases::slope_table;
+use crate::random::ModesRun;
+use crate::random::folded;
+use crate::singles::folded_value;
+use limits::Answer;
+use limits::Valued;
+ghost use Prim.Native.Nat.{_≤_};
+ghost use lib.ListN.{length};
+
+// The first `n` cells of `add` are lent.
+fn prepare(
+    c: Call,
+    l: Lent,
+    curve: &[f32; 1025],
+    controls: &[f32; 1160],
+    inner: &mut [f32; 12],
+    stretch: &mut [f32; 12],
+    add: &mut [f32],
+    n: usize,
+) -> Answer
+    requires { ⌜ n ≤ length (now add) ⌝ }
+{
+    let zero = 0usize;
+    let add = &mut add[zero..n];
+    spans::prepare(
+        c.mode0,
+        c.mode1,
+        c.factor,
+        c.lanes,
+        c.active,
+        c.frames,
+        c.rate,
+        part(controls, 0, l.base0),
+        part(controls, 4, 4),
+        part(controls, 8, l.mod0),
+        part(controls, 296, l.mod1),
+        part(controls, 584, l.source0),
+        part(controls, 872, l.source1),
+        curve,
+        inner,
+        stretch,
+        add,
+    )
+}
+
+fn prepare_turn(
+    run: ModesRun,
+    d: Draws,
+    h: u64,
+    curve: &[f32; 1025],
+    controls: &[f32; 1160],
+    inner: &mut [f32; 12],
+    stretch: &mut [f32; 12],
+    add: &mut [f32; 12],
+) -> u64 {
+    let c = call_of(run, d);
+    let l = lent_of(d);
+    let a = prepare(c, l, curve, controls, inner, stretch, add, l.add % 13);
+    let h = folded(folded(h, a.number), a.frames);
+    let h = folded_cells(h, inner);
+    let h = folded_cells(h, stretch);
+    folded_cells(h, add)
+}
+
+pub fn prepare_hash(run: ModesRun) -> u64 {
+    let seed = run.seed;
+    let count = run.count % 0x1_0000;
+    let curve = slope_table(seed);
+    let mut controls = [0.0; 1160];
+    let mut inner = [0.0; 12];
+    let mut stretch = [0.0; 12];
+    let mut add = [0.0; 12];
+    let mut s = draw_kind(seed, Kind::Controls, seed, &mut controls);
+    s = draw_kind(seed, Kind::Stretch, s, &mut inner);
+    s = draw_kind(seed, Kind::Stretch, s, &mut stretch);
+    s = draw_kind(seed, Kind::Slope, s, &mut add);
+    let mut h: u64 = 0xcbf2_9ce4_8422_2325;
+    for _ in 0..count {
+        let d = drawn(s);
+        s = d.x;
+        h = prepare_turn(
+            run,
+            d,
+            h,
+            &curve,
+            &controls,
+            &mut inner,
+            &mut stretch,
+            &mut add,
+        );
+    }
+    h
+}
+
+fn stretch(c: Call, l: Lent, stretch: &[f32; 12], add: &[f32; 12]) -> Valued {
+    spans::stretch(
+        c.factor,
+        c.lanes,
+        c.active,
+        c.lane,
+        c.frames,
+        c.first,
+        c.count,
+        c.frame,
+        c.asked,
+        c.step,
+        part(stretch, 0, l.stretch),
+        part(add, 0, l.add),
+    )
+}
+
+pub fn stretch_hash(run: ModesRun) -> u64 {
+    let seed = run.seed;
+    let count = run.count % 0x1_0000;
+    let mut rows = [0.0; 12];
+    let mut add = [0.0; 12];
+    let mut s = draw_kind(seed, Kind::Stretch, seed, &mut rows);
+    s = draw_kind(seed, Kind::Slope, s, &mut add);
+    let mut h: u64 = 0xcbf2_9ce4_8422_2325;
+    for _ in 0..count {
+        let d = drawn(s);
+        s = d.x;
+        h = folded_value(h, stretch(call_of(run, d), lent_of(d), &rows, &add));
+    }
+    h
+}

@@ -1,0 +1,77 @@
+//! Blocks one after another as a card makes them: the spans by `prepare`, then ranges that follow one
+//! another. Each side goes on with its own spans and state.
+
+use super::drawn::{Block, Tables, ranges};
+use crate::guards::differs;
+use crate::lending::{pair, ported};
+use crate::tally::Tally;
+use programs::Generator;
+use programs::blocks::{BUFFERS, rows};
+use programs::singles::{Buffer, Buffers, Call, Kind, Lengths};
+
+/// Blocks in a row.
+const BLOCKS: u32 = 3;
+
+/// What a block is lent anew.
+const INPUTS: [Buffer; 6] =
+    [Buffer::Base0, Buffer::Base1, Buffer::Mod0, Buffer::Mod1, Buffer::Source0, Buffer::Source1];
+
+struct Sides {
+    ours: Buffers,
+    theirs: Buffers,
+    lengths: Lengths,
+}
+
+impl Sides {
+    fn new(block: &Block<'_>, g: &mut Generator) -> Self {
+        let length = |buffer: Buffer| buffer.asked(&block.call) as usize;
+        let ours = Buffers::new(&BUFFERS, length, |buffer, i| match block.fixed(buffer).get(i) {
+            Some(&cell) => cell,
+            None => block.floats.cell(buffer, g),
+        });
+        let is_given = |buffer: Buffer| buffer.optional().is_none_or(|i| block.draws.gives(i));
+        let lengths = Buffer::ALL.map(|buffer| if is_given(buffer) { length(buffer) } else { 0 });
+        Self { theirs: ours.clone(), ours, lengths }
+    }
+
+    /// The next block's inputs, the same for both.
+    fn draw(&mut self, block: &Block<'_>, g: &mut Generator) {
+        for buffer in INPUTS {
+            let cells = &mut self.ours.floats[buffer as usize];
+            cells.fill_with(|| block.floats.cell(buffer, g));
+            self.theirs.floats[buffer as usize].clone_from(cells);
+        }
+        let cells = self.lengths[Buffer::Words as usize];
+        self.ours.words = rows(g, cells, block.call.lanes as usize, block.floats.is_wild());
+        self.theirs.words.clone_from(&self.ours.words);
+    }
+
+    fn call(&mut self, kind: Kind, call: &Call, tally: &mut Tally) {
+        let got = ported(kind, call, self.ours.lend(&self.lengths));
+        let want = self.theirs.lend(&self.lengths).answer(kind, call);
+        let is_same = got.iter().copied().eq(want.iter().copied().map(u64::from));
+        tally.case(is_same, || format!("{kind:?} of {call:x?}: {got:08x?}, the oracle {want:08x?}"));
+        for &buffer in kind.changed() {
+            let [ours, theirs] = [&self.ours, &self.theirs].map(|cells| &cells.floats[buffer as usize]);
+            let wrong = differs(ours, theirs);
+            tally.case(wrong.is_none(), || format!("{buffer:?} of {kind:?} of {call:x?}: cell {wrong:?}"));
+        }
+    }
+}
+
+/// A third as many runs of blocks.
+pub fn compare(count: u64, tally: &mut Tally) {
+    let mut g = Generator(0x165e_c2b2);
+    let tables = Tables::new(&mut g);
+    for i in 0..count / 3 {
+        let block = Block::draw(pair(i), &tables, &mut g);
+        let mut sides = Sides::new(&block, &mut g);
+        for _ in 0..BLOCKS {
+            sides.draw(&block, &mut g);
+            sides.call(Kind::Prepare, &block.call, tally);
+            for [first, count] in ranges(block.call.frames, &mut g) {
+                sides.call(Kind::Run, &Call { first, count, ..block.call }, tally);
+            }
+        }
+    }
+}

@@ -1,0 +1,54 @@
+//! Prints the block run's vectors in the format of `leaf_vectors`, as runs of
+//! code e0: A is the seed, B mode 1 × 2^24 + mode 0 × 2^16 + the count of
+//! calls, C and E the high and low half of the hash.
+//!
+//! A run draws designs, the numbers of a block and its buffers, prepares the
+//! block's spans, and then renders its ranges one after another. After each
+//! call the hash takes its number and frames and all cells of the buffers
+//! that it changes: inner, stretch and add; then each time output, work,
+//! pairs, fm, last and state. oracle/README.md has what is made of each word.
+
+use programs::blocks::{BLOCK, run};
+
+/// The calls of a run.
+const CALLS: u32 = 8;
+
+/// Pairs beside those of all modes: nothing to do, the sample kept for
+/// `PdSelf`, two FM carries, two filters, two distortions.
+const MORE: [[u32; 2]; 12] = [
+    [0, 0],
+    [0, 0],
+    [57, 21],
+    [17, 57],
+    [57, 58],
+    [64, 57],
+    [33, 40],
+    [47, 33],
+    [17, 18],
+    [18, 17],
+    [19, 31],
+    [24, 16],
+];
+
+/// The modes of each run, slot 0's first: all 70 in each slot, twice.
+fn modes() -> impl Iterator<Item = [u32; 2]> {
+    let every = |step: u32, from: u32| (0..70).map(move |mode| [mode, (step * mode + from) % 70]);
+    every(29, 5).chain(every(13, 44)).chain(MORE)
+}
+
+fn main() {
+    for (place, [mode0, mode1]) in modes().enumerate() {
+        let line = 0x500 + place as u32;
+        // Odd in turn, a mode's second run unlike its first.
+        let odd = (mode0 + place as u32 / 70) & 1;
+        let seed = line.wrapping_mul(0x9e37_79b1) & !1 | odd;
+        let hash = run([mode0, mode1], seed, CALLS);
+        println!(
+            "{:02x} {seed:08x} {:08x} {:08x} {:08x}",
+            BLOCK + 0x80,
+            mode1 << 24 | mode0 << 16 | CALLS,
+            (hash >> 32) as u32,
+            hash as u32
+        );
+    }
+}
