@@ -1,27 +1,5 @@
 /* Spans and block runs from C. Prints how many checks pass, "P of T"; with the word `numbers`, the header's sine and arctangent numbers. */
-#include "shaper.h"
-
-#include <inttypes.h>
-#include <stdio.h>
-#include <string.h>
-
-static unsigned passed, total;
-
-static void check(int right, const char *what)
-{
-    total += 1;
-    if (right)
-        passed += 1;
-    else
-        fprintf(stderr, "differs: %s\n", what);
-}
-
-static uint32_t bits(float x)
-{
-    uint32_t pattern;
-    memcpy(&pattern, &x, sizeof pattern);
-    return pattern;
-}
+#include "check.h"
 
 /* In the form of the oracle's `constants`. */
 static void print_numbers(void)
@@ -87,11 +65,6 @@ static struct shaper_answer run(uint32_t mode0, uint32_t mode1, uint32_t first, 
         shaper_card_coefs, 36, shaper_numbers, numbers, base, LANES, base, LANES, amount, FRAMES * LANES, NULL, 0, source, FRAMES * LANES,
         source, FRAMES * LANES, curve, 1025, cycle, 2048, words, RENDERED * LANES, steps, RENDERED * LANES, inner, SPANS * LANES,
         v->output, FRAMES * LANES, v->work, RENDERED * LANES, v->pairs, 4 * LANES, v->fm, 2 * LANES, v->last, LANES, v->state, 72 * LANES);
-}
-
-static int answered(struct shaper_answer answer, uint32_t number, uint32_t frames)
-{
-    return answer.number == number && answer.frames == frames;
 }
 
 /* A distortion is given the host rate's band: stretch starts from the factor. */
@@ -179,6 +152,5 @@ int main(int argc, char **argv)
     check_cuts(SYNC, LOW_PASS);
     check_cuts(PD_SELF, HARD_CLIP);
     check_cuts(FM1, AM1);
-    printf("%u of %u\n", passed, total);
-    return passed == total ? 0 : 1;
+    return finish();
 }

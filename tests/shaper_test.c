@@ -1,32 +1,5 @@
 /* The library from C. Prints how many checks pass, "P of T"; with the word `designs`, the header's designs. */
-#include "shaper.h"
-
-#include <inttypes.h>
-#include <stdio.h>
-#include <string.h>
-
-static unsigned passed, total;
-
-static void check(int right, const char *what)
-{
-    total += 1;
-    if (right)
-        passed += 1;
-    else
-        fprintf(stderr, "differs: %s\n", what);
-}
-
-static uint32_t bits(float x)
-{
-    uint32_t pattern;
-    memcpy(&pattern, &x, sizeof pattern);
-    return pattern;
-}
-
-static int answered(struct shaper_answer answer, uint32_t number, uint32_t frames)
-{
-    return answer.number == number && answer.frames == frames;
-}
+#include "check.h"
 
 /* The designs as bit patterns, in the form of the oracle's `constants`. */
 static void print_designs(void)
@@ -146,6 +119,5 @@ int main(int argc, char **argv)
     check_one_section();
     check_refusals();
     check_cuts();
-    printf("%u of %u\n", passed, total);
-    return passed == total ? 0 : 1;
+    return finish();
 }

@@ -1,8 +1,9 @@
--- What a block run call does to one lane, from its contract alone: accepted, refused, and where the lane is not active. Assumes nothing.
+-- What a block run call does to one lane, from its contract alone: accepted, refused, and where the lane is not active or the row is not
+-- in the range. Assumes nothing.
 use mathlib.Core.Path.{_≡_, sym, _∙_, ap}
 use mathlib.Core.List.{List, []}
 use Prim.Native.Nat.{ℕ, _+_, _≤_, _<_}
-use native.Mathlib.Decide.{ℕ-discrete}
+use native.Mathlib.Decide.{ℕ-discrete, decLt}
 use native.Mathlib.Omega.{arith}
 use lib.ListN.{getD}
 use lib.Seq.{ext-getD}
@@ -16,10 +17,10 @@ use Rattle.grid.proofs.EachLaws.{each-above}
 use Rattle.render.specs.Share.{Buffers, Columns, columnsOf}
 use Rattle.block.specs.Call.{Call, Meets, numberOf, lanesOf, inputs, shareOf}
 use Rattle.block.proofs.RefusalLaws.{call-taken}
-use Rattle.cuts.specs.Cuts.{entering, leaving, Which, buffer, Carried, kept-back, lent-at, Around, rowsOf, Untouched}
+use Rattle.cuts.specs.Cuts.{entering, leaving, Which, buffer, Carried, kept-back, lent-at, Around, rowsOf, Untouched, Outside}
 use Rattle.cuts.proofs.Accepted.{Good, good}
 use Rattle.cuts.proofs.State.{listOf, columns-end, state-listed}
-use Rattle.cuts.proofs.Share.{stateAfter, outputAt, share-state, share-output}
+use Rattle.cuts.proofs.Share.{stateAfter, outputAt, share-state, share-output, share-outside}
 
 -- ---- accepted
 
@@ -61,6 +62,12 @@ module _ (c : Call) (ok : numberOf c ≡ 0) where
         ∙ share-output (c .settings) call-good (c .range) (inputs c lane) enter (columns-end (lanesOf c) lane (c .before)) k h
         ∙ ap (λ (s : List Float). outputAt (c .settings) (inputs c lane) (c .range .first) s k)
         (sym (state-listed (lanesOf c) lane (c .before)))))
+
+    pub call-outside : (row : ℕ) → (c .range .first ≤ row → row < c .range .first + c .range .count → ⊥)
+        → col nan (lanesOf c) lane (c .after .output) row ≡ col nan (lanesOf c) lane (c .before .output) row
+    unfolding columnsOf
+    call-outside row free =
+        ap (λ (f : ℕ → Float). f row) output-shared ∙ share-outside (c .settings) (c .range) (inputs c lane) enter row free
 
 -- ---- refused
 
@@ -124,3 +131,14 @@ module _ (c : Call) (m : Meets c) where
       go : Dec (numberOf c ≡ 0) → Untouched c
       go (yes ok) = idle-accepted ok
       go (no bad) = idle-refused bad
+
+-- ---- rows outside the range
+
+pub outside : (c : Call) → Meets c → Outside c
+outside c m = record { rows = λ ok row lane low free. go ok row lane low free (decLt lane (c .active)) }
+  where
+    go : numberOf c ≡ 0 → (row lane : ℕ) → lane < lanesOf c
+        → (c .range .first ≤ row → row < c .range .first + c .range .count → ⊥) → Dec (lane < c .active)
+        → col nan (lanesOf c) lane (c .after .output) row ≡ col nan (lanesOf c) lane (c .before .output) row
+    go ok row lane low free (yes on) = call-outside c ok m lane on row free
+    go ok row lane low free (no off) = untouched c m .output row lane (omega arith) low

@@ -9,11 +9,11 @@ use Rattle.grid.specs.Functions.{table}
 use Rattle.render.specs.declared.cells.BlockSettings.{BlockSettings}
 use Rattle.render.specs.Lane.{Inputs}
 use Rattle.block.specs.Call.{Call, Meets, numberOf, lanesOf, inputs}
-use Rattle.cuts.specs.Cuts.{entering, leaving, Alike, RunB, end, refuse, accept, rowsOf, outputOf, Untouched, AllOf, Demand3}
+use Rattle.cuts.specs.Cuts.{entering, leaving, Alike, RunB, end, refuse, accept, rowsOf, outputOf, Untouched, Outside, Returned, AllOf, Demand3}
 use Rattle.cuts.proofs.Accepted.{Good}
 use Rattle.cuts.proofs.State.{columns-end, state-listed}
 use Rattle.cuts.proofs.Share.{stateAfter, outputAt, state-none, state-add, output-add}
-use Rattle.cuts.proofs.Calls.{call-good, call-within, call-state, call-rows, refused-rows, refused-state, untouched}
+use Rattle.cuts.proofs.Calls.{call-good, call-within, call-state, call-rows, refused-rows, refused-state, untouched, outside}
 use Rattle.cuts.proofs.Runs.{alone}
 
 table-add : {A : Type 0} (m n : ℕ) (f : ℕ → A) → table (m + n) f ≡ table m f ++ table n (λ i. f (m + i))
@@ -83,12 +83,14 @@ module _ (a : Call) (lane : ℕ) (good : Good (a .settings)) where
         after .1 ∙ ap state (omega arith),
       )
 
-all-untouched : (a : Call) (lane at : ℕ) (s e : List Float) (cs : List Call) → RunB a lane at s cs e → AllOf Untouched cs
+-- what each call does
+each-call : (P : Call → Type 0) → ((c : Call) → Meets c → P c)
+    → (a : Call) (lane at : ℕ) (s e : List Float) (cs : List Call) → RunB a lane at s cs e → AllOf P cs
 unfolding AllOf
-all-untouched a lane at s e cs (end here done) = tt
-all-untouched a lane at s e cs (refuse {t = t} {cs = ds} c m bad around run) = (untouched c m, all-untouched a lane at t e ds run)
-all-untouched a lane at s e cs (accept {cs = ds} c m ok alike from lends run) =
-    (untouched c m, all-untouched a lane (at + c .range .count) (leaving c lane) e ds run)
+each-call P does a lane at s e cs (end here done) = tt
+each-call P does a lane at s e cs (refuse {t = t} {cs = ds} c m bad around run) = (does c m, each-call P does a lane at t e ds run)
+each-call P does a lane at s e cs (accept {cs = ds} c m ok alike from lends run) =
+    (does c m, each-call P does a lane (at + c .range .count) (leaving c lane) e ds run)
 
 -- Run A is a Run B too, so both are compared with the same function of the lane's state at the start
 pub cuts : Demand3
@@ -102,5 +104,7 @@ cuts a lane cs e whole run =
     record {
       output = many .0 ∙ sym (one .0);
       state = many .1 ∙ sym (one .1);
-      inactive = (untouched a (whole .meets), all-untouched a lane 0 (entering a lane) e cs run);
+      inactive = (untouched a (whole .meets), each-call Untouched untouched a lane 0 (entering a lane) e cs run);
+      outside = (outside a (whole .meets), each-call Outside outside a lane 0 (entering a lane) e cs run);
+      returned = (whole .meets .refused, each-call Returned (λ c m. m .refused) a lane 0 (entering a lane) e cs run);
     }

@@ -1,4 +1,5 @@
--- A block that there is: 6 host frames of 2 lanes at factor 4, one lane active, in one call and in two. Assumes nothing.
+-- A block that there is: 6 host frames of 2 lanes at factor 4, one lane active, in one call and in two, and with a refused call in front.
+-- Assumes nothing.
 use mathlib.Core.Path.{_≡_, refl}
 use mathlib.Core.List.{[], _∷_}
 use native.Mathlib.Omega.{arith}
@@ -11,10 +12,10 @@ use Rattle.render.specs.declared.cells.BlockSettings.{BlockSettings}
 use Rattle.render.specs.Lane.{Lent}
 use Rattle.render.specs.Share.{Buffers}
 use Rattle.block.specs.Refusal.{blockRefusal}
-use Rattle.block.specs.Call.{Call, readLengths, writeLengths}
+use Rattle.block.specs.Call.{Call, readLengths, writeLengths, numberOf}
 use Rattle.cuts.specs.Cuts.{leaving, RunA, Agree, Demand3}
-use Rattle.cuts.proofs.Made.{made}
-use Rattle.cuts.proofs.Runs.{range, whole, firstPart, secondPart, in-two}
+use Rattle.cuts.proofs.Made.{made, met-by}
+use Rattle.cuts.proofs.Runs.{range, whole, firstPart, secondPart, refused-lent, in-two}
 use Rattle.cuts.proofs.Cuts.{cuts}
 
 settings : BlockSettings
@@ -76,3 +77,18 @@ example-runs = whole settings 1 36 13 lent before 0 passes-all (omega arith)
 pub example-cut : Agree example 0 (firstPart example 4 ∷ secondPart example 4 ∷ []) (leaving (secondPart example 4) 0)
 unfolding Demand3 example settings
 example-cut = cuts example 0 _ _ example-runs (in-two example 0 example-runs 4 (omega arith))
+
+-- a call past the block's end in the same buffers: it is lent the lane's state and refused
+pub past-end : Call
+past-end = made settings (range 0 7) 1 36 13 lent before
+
+past-end-number : numberOf past-end ≡ 4
+unfolding past-end settings lent before numberOf blockRefusal firstOf cardDesigns spansOf
+past-end-number = refl
+
+pub example-refused : Agree example 0 (past-end ∷ firstPart example 4 ∷ secondPart example 4 ∷ []) (leaving (secondPart example 4) 0)
+unfolding Demand3 example past-end settings
+example-refused =
+    cuts example 0 _ _ example-runs
+    (refused-lent example 0 0 _ _ _ past-end 2 0 (met-by _ _ _ _ _ _ _) (λ ok. omega (arith, past-end-number)) refl
+    (in-two example 0 example-runs 4 (omega arith)))

@@ -1,13 +1,16 @@
 -- Demand 3 is about runs that there are: all arguments that pass the table make a Run A; Run A by itself is a Run B; with no host frame
--- the empty list is one; and however a block is cut, the calls for its parts, one after another in the same buffers, are one.
--- Assumes nothing.
-use mathlib.Core.Path.{_≡_, refl, sym, _∙_, subst}
-use mathlib.Core.List.{List, [], _∷_}
-use Prim.Native.Nat.{ℕ, _+_, _-_, _*_, _<_, _≤_}
+-- the empty list is one; a refused call, lent the lane's state or not, may stand in front; and however a block is cut, the calls for its
+-- parts, one after another in the same buffers, are one. Assumes nothing.
+use mathlib.Core.Path.{_≡_, refl, sym, _∙_, ap, subst, subst₂}
+use mathlib.Core.List.{List, [], _∷_, _++_}
+use Prim.Native.Nat.{ℕ, zero, suc, _+_, _-_, _*_, _<_, _≤_}
 use native.Mathlib.Nat.{zero-add, add-zero, add-assoc, mul-le-mul-right}
 use native.Mathlib.Omega.{arith}
-use lib.Ieee.{Float}
+use lib.ListN.{getD, length}
+use lib.Ieee.{Float, nan}
 use borrow.Author.Tests.{le-ltb}
+use Rattle.grid.specs.Cells.{column}
+use Rattle.grid.proofs.CellLaws.{col-at, length-column, getD-column}
 use Rattle.halfband.specs.Ranges.{total}
 use Rattle.shaper.specs.declared.settings.Range.{Range}
 use Rattle.render.specs.declared.cells.BlockSettings.{BlockSettings}
@@ -17,7 +20,7 @@ use Rattle.render.specs.Promises.{Writable}
 use Rattle.block.specs.Refusal.{blockRefusal}
 use Rattle.block.specs.Call.{Call, Meets, readLengths, writeLengths, numberOf, lanesOf}
 use Rattle.block.proofs.RefusalLaws.{Passed, passes, line-block, writable, not-short, call-passed}
-use Rattle.cuts.specs.Cuts.{stateOf, entering, leaving, kept-back, RunA, RunB, end, refuse, accept}
+use Rattle.cuts.specs.Cuts.{stateOf, entering, leaving, Which, buffer, Carried, kept-back, lent-at, Around, RunA, RunB, end, refuse, accept}
 use Rattle.cuts.proofs.Made.{made, met-by, made-sizes}
 
 abbrev pub range : ℕ → ℕ → Range
@@ -53,6 +56,50 @@ none a lane e = end (sym e) refl
 pub refused-first : (a : Call) (lane at : ℕ) (s e : List Float) (cs : List Call) (c : Call) → Meets c → (numberOf c ≡ 0 → ⊥)
     → RunB a lane at s cs e → RunB a lane at s (c ∷ cs) e
 refused-first a lane at s e cs c m bad run = refuse c m bad (record { size = refl; cells = λ i h. kept-back refl }) run
+
+-- cells that lie in a column of a written buffer
+around-column : (c : Call) (n lane rows : ℕ) (w : Which)
+    → Around c (column nan n lane rows (buffer w (c .before))) (column nan n lane rows (buffer w (c .after)))
+around-column c n lane rows w =
+    record {
+      size = length-column nan n lane rows _ ∙ sym (length-column nan n lane rows _);
+      cells = λ i h. lent-at w (i * n + lane) (at (c .before) i (rw length-column at h)) (at (c .after) i (rw length-column at h));
+    }
+  where
+    at : (b : Buffers) (i : ℕ) → i < rows → getD (buffer w b) (i * n + lane) nan ≡ getD (column nan n lane rows (buffer w b)) i nan
+    at b i h = sym (getD-column nan n lane rows (buffer w b) i h ∙ col-at nan n lane (buffer w b) i)
+
+-- and of columns one after another
+around-both : (c : Call) (xs ys us vs : List Float) → Around c xs ys → Around c us vs → Around c (xs ++ us) (ys ++ vs)
+around-both c [] [] us vs first next = next
+around-both c [] (y ∷ ys) us vs first next = absurd (omega (arith, first .size))
+around-both c (x ∷ xs) [] us vs first next = absurd (omega (arith, first .size))
+around-both c (x ∷ xs) (y ∷ ys) us vs first next =
+    let one : length ys ≡ length xs = omega (arith, first .size) in
+    let more = around-both c xs ys us vs (record { size = one; cells = λ i h. first .cells (suc i) (omega arith) }) next in
+    record { size = ap suc (more .size); cells = go more }
+  where
+    go : Around c (xs ++ us) (ys ++ vs) → (i : ℕ) → i < length (x ∷ (xs ++ us))
+        → Carried c (getD (x ∷ (xs ++ us)) i nan) (getD (y ∷ (ys ++ vs)) i nan)
+    go more zero h = first .cells zero (omega arith)
+    go more (suc i) h = more .cells i (omega arith)
+
+-- a call that is lent a lane's whole state, in the places of any of n lanes
+pub lent-whole : (c : Call) (n lane : ℕ) → Around c (stateOf n lane (c .before)) (stateOf n lane (c .after))
+lent-whole c n lane =
+    around-both c _ _ _ _
+    (around-both c _ _ _ _
+    (around-both c _ _ _ _ (around-column c n lane 4 Which.pairs) (around-column c n lane 2 Which.fm))
+    (around-column c n lane 1 Which.last))
+    (around-column c n lane 72 Which.dec)
+
+-- a refused call in front that is lent the lane's state, in its own layout or any other
+pub refused-lent : (a : Call) (lane at : ℕ) (s e : List Float) (cs : List Call) (c : Call) (n place : ℕ) → Meets c → (numberOf c ≡ 0 → ⊥)
+    → stateOf n place (c .before) ≡ s → RunB a lane at s cs e → RunB a lane at s (c ∷ cs) e
+refused-lent a lane at s e cs c n place m bad lends run = refuse c m bad (subst₂ (Around c) lends back (lent-whole c n place)) run
+  where
+    back : stateOf n place (c .after) ≡ s
+    back = ap (stateOf n place) (m .refused bad) ∙ lends
 
 -- ---- parts
 

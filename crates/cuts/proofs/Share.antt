@@ -8,7 +8,7 @@ use native.Mathlib.Nat.{add-mul, zero-mul}
 use native.Mathlib.Omega.{arith}
 use lib.Ieee.{Float}
 use Rattle.grid.specs.Functions.{upd, upto, span}
-use Rattle.grid.proofs.FunctionLaws.{upto-in, span-in}
+use Rattle.grid.proofs.FunctionLaws.{upto-in, span-in, span-below, span-above}
 use Rattle.halfband.specs.Halfband.{View, cascade}
 use Rattle.halfband.specs.Floats.{floats, designOf}
 use Rattle.halfband.specs.Refusal.{stagesOf}
@@ -178,3 +178,16 @@ module _ (b : BlockSettings) (good : Good b) where
         ap (λ (g : ℕ → Float). g (r .first + k)) output-shared ∙ span-in (r .first) (r .count) _ _ k h
         ∙ agree-rows floats (designOf (b .designs)) (stagesOf (b .shaper .factor)) (r .count) whole worked rows used k h
         ∙ halved-row (r .count) k whole h
+
+-- output rows outside the range are left
+module _ (b : BlockSettings) (r : Range) (i : Inputs) (v : Columns) (row : ℕ)
+    (free : r .first ≤ row → row < r .first + r .count → ⊥) where
+  spanned : Dec (row < r .first) → Dec (row < r .first + r .count) → (f : ℕ → Float)
+      → span (r .first) (r .count) f (v .output) row ≡ v .output row
+  spanned (yes l) more f = span-below _ _ f _ row l
+  spanned (no l) (yes h) f = absurd (free (omega arith) h)
+  spanned (no l) (no h) f = span-above _ _ f _ row (omega arith)
+
+  pub share-outside : share b r i v .output row ≡ v .output row
+  unfolding share copied decimated rendered
+  share-outside = spanned (decLt row (r .first)) (decLt row (r .first + r .count)) _

@@ -109,6 +109,16 @@ pub record Untouched (c : Call) : Type 0 where
   pub last : Idle c (c .before .last) (c .after .last)
   pub dec : Idle c (c .before .dec) (c .after .dec)
 
+-- "An accepted call leaves output rows outside its range as they were", in every lane
+pub record Outside (c : Call) : Type 0 where
+  pub rows : numberOf c ≡ 0 → (row lane : ℕ) → lane < lanesOf c
+      → (c .range .first ≤ row → row < c .range .first + c .range .count → ⊥)
+      → col nan (lanesOf c) lane (c .after .output) row ≡ col nan (lanesOf c) lane (c .before .output) row
+
+-- of a refused call: "what one is lent comes back as it was", every cell of the six written buffers
+abbrev pub Returned : Call → Type 0
+Returned c = (numberOf c ≡ 0 → ⊥) → c .after ≡ c .before
+
 -- of each call of a list
 unfoldable pub AllOf : (Call → Type 0) → List Call → Type 0
 AllOf P [] = Unit {0}
@@ -119,6 +129,8 @@ pub record Agree (a : Call) (lane : ℕ) (cs : List Call) (e : List Float) : Typ
   pub output : outputOf lane cs ≡ outputOf lane (a ∷ [])
   pub state : e ≡ leaving a lane
   pub inactive : AllOf Untouched (a ∷ cs)
+  pub outside : AllOf Outside (a ∷ cs)
+  pub returned : AllOf Returned (a ∷ cs)
 
 -- "Take any such list and any lane"; "Both runs start from the same state of that lane, whatever it is"
 unfoldable pub Demand3 : Type 0

@@ -16,10 +16,17 @@ ghost use Prim.Native.Nat.{_≤_};
 // What a buffer's cells are.
 pub enum Kind {
     Controls,
+    Percent,
+    Modulation,
     Sample,
     Half,
     Stretch,
     Slope,
+}
+
+// A number of percent from -64 to 64.
+fn modulation(draw: u32) -> f32 {
+    nearest_u32(draw >> 8) / 131072.0 - 64.0
 }
 
 // What modulation adds to a step: 0, or a number of words to 2^30.
@@ -36,7 +43,7 @@ fn control(i: usize, draw: u32) -> f32 {
     if i < 8 {
         percent(draw)
     } else if i < 584 {
-        nearest_u32(draw >> 8) / 131072.0 - 64.0
+        modulation(draw)
     } else {
         sample(draw)
     }
@@ -45,6 +52,8 @@ fn control(i: usize, draw: u32) -> f32 {
 fn tame(kind: Kind, i: usize, draw: u32) -> f32 {
     match kind {
         Kind::Controls => control(i, draw),
+        Kind::Percent => percent(draw),
+        Kind::Modulation => modulation(draw),
         Kind::Sample => sample(draw),
         Kind::Half => sample(draw) * 0.5,
         Kind::Stretch => inner_stretch(draw),
@@ -123,30 +132,39 @@ struct Place {
 }
 
 // One of `n` numbers from 0 on; `n` is never 0.
-fn below(draw: u32, n: u32) -> u32 {
+pub fn below(draw: u32, n: u32) -> u32 {
     if n == 0 { 0 } else { draw % n }
 }
 
 // Numbers of frames and lanes are small, so that neither wraps.
-fn minus(a: u32, b: u32) -> u32 {
+pub fn minus(a: u32, b: u32) -> u32 {
     std::num::wrapping_sub_u32(a, b)
 }
 
-fn plus(a: u32, b: u32) -> u32 {
+pub fn plus(a: u32, b: u32) -> u32 {
     std::num::wrapping_add_u32(a, b)
 }
 
-fn lanes_of(sizes: u32) -> u32
+pub fn lanes_of(sizes: u32) -> u32
     ensures { λ r. ⌜ (1 ≤ r) × (r ≤ 4) ⌝ }
 {
     1 + sizes / 4 % 4
 }
 
+pub fn active_of(sizes: u32, lanes: u32) -> u32 {
+    minus(lanes, below(sizes / 0x100, lanes))
+}
+
+// A block's host frames: one time of four 6 at the most.
+pub fn frames_of(sizes: u32, most: u32) -> u32 {
+    let most = if sizes / 0x1000 % 4 == 0 { 6 } else { most };
+    plus(1, below(sizes / 0x1_0000, most))
+}
+
 fn place_of(sizes: u32, range: u32) -> Place {
     let shift = sizes % 4;
     let lanes = lanes_of(sizes);
-    let most = if sizes / 0x1000 % 4 == 0 { 6 } else { 72 };
-    let frames = plus(1, below(sizes / 0x1_0000, most));
+    let frames = frames_of(sizes, 72);
     let first = below(range, frames);
     let left = minus(frames, first);
     let some = plus(1, below(range / 0x1000, left));
@@ -155,7 +173,7 @@ fn place_of(sizes: u32, range: u32) -> Place {
     Place {
         shift,
         lanes,
-        active: minus(lanes, below(sizes / 0x100, lanes)),
+        active: active_of(sizes, lanes),
         frames,
         first,
         left,
@@ -192,7 +210,7 @@ fn word_of(how: u32, draw: u32) -> u32 {
 }
 
 // Words a rendered frame: 0, to 1/64 of a cycle, or with an odd seed any.
-fn step_of(seed: u32, draw: u32) -> u32 {
+pub fn step_of(seed: u32, draw: u32) -> u32 {
     if draw % 8 == 0 {
         0
     } else if seed % 2 == 0 {
@@ -200,6 +218,14 @@ fn step_of(seed: u32, draw: u32) -> u32 {
     } else {
         draw
     }
+}
+
+pub fn rate_of(draw: u32) -> u32 {
+    8000 + draw % 184001
+}
+
+pub fn character_of(seed: u32, draw: u32) -> f32 {
+    cell(seed, draw, fraction(draw))
 }
 
 // The numbers of a call; each kind of call takes some of them.
@@ -224,7 +250,7 @@ pub struct Call {
 }
 
 // `new` where the call has the fault, else `old`.
-fn put(fault: u32, at: u32, new: u32, old: u32) -> u32 {
+pub fn put(fault: u32, at: u32, new: u32, old: u32) -> u32 {
     if fault == at { new } else { old }
 }
 
@@ -240,8 +266,8 @@ pub fn call_of(run: ModesRun, d: Draws) -> Call {
     Call {
         mode0: put(fault, 0, 70, run.mode0),
         mode1: put(fault, 1, 70, run.mode1),
-        character0: cell(seed, d.character0, fraction(d.character0)),
-        character1: cell(seed, d.character1, fraction(d.character1)),
+        character0: character_of(seed, d.character0),
+        character1: character_of(seed, d.character1),
         factor: put(fault, 2, 3, 1 << (p.shift % 4)),
         lanes: p.lanes,
         active: put(fault, 3, plus(p.lanes, 1), put(fault, 5, 0, p.active)),
@@ -251,7 +277,7 @@ pub fn call_of(run: ModesRun, d: Draws) -> Call {
         count: put(fault, 7, plus(p.left, 1), p.count),
         frame: put(fault, 8, rendered, p.frame),
         asked: put(fault, 8, 0, put(fault, 10, over, asked)),
-        rate: put(fault, 9, 7999, 8000 + d.rate % 184001),
+        rate: put(fault, 9, 7999, rate_of(d.rate)),
         word: word_of(how / 0x1_0000, d.place),
         step: step_of(seed, d.step),
         x: cell(seed, d.x, sample(d.x)),
@@ -271,12 +297,12 @@ pub struct Lent {
 }
 
 // A modulation or a source: absent one time of four.
-fn given(draw: u32) -> usize {
-    if draw % 4 == 0 { 0 } else { 288 }
+pub fn given(draw: u32, whole: usize) -> usize {
+    if draw % 4 == 0 { 0 } else { whole }
 }
 
 // The whole buffer, or with the fault one cell less than the call asks for.
-fn cut(fault: u32, at: u32, short: usize, whole: usize) -> usize {
+pub fn cut(fault: u32, at: u32, short: usize, whole: usize) -> usize {
     if fault == at { short } else { whole }
 }
 
@@ -291,10 +317,10 @@ pub fn lent_of(d: Draws) -> Lent {
     let end = place(row, n, n - 1);
     Lent {
         base0: cut(fault, 11, n - 1, 4),
-        mod0: given(how / 0x100),
-        mod1: given(how / 0x400),
-        source0: given(how / 0x1000),
-        source1: given(how / 0x4000),
+        mod0: given(how / 0x100, 288),
+        mod1: given(how / 0x400, 288),
+        source0: given(how / 0x1000, 288),
+        source1: given(how / 0x4000, 288),
         last: cut(fault, 12, n - 1, 4),
         stretch: cut(fault, 11, end, 12),
         add: cut(fault, 12, end, 12),

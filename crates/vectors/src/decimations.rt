@@ -44,7 +44,7 @@ fn coefficient(seed: u32, draw: u32) -> f32 {
 }
 
 // Draws coefficients after the state `s`; gives the state after them.
-fn draw_coefs(seed: u32, s: u32, coefs: &mut [f32; 36]) -> u32 {
+pub fn draw_coefs(seed: u32, s: u32, coefs: &mut [f32; 36]) -> u32 {
     let mut s = s;
     for i in 0..36usize {
         s = next(s);
@@ -64,7 +64,7 @@ fn draw_cells(seed: u32, s: u32, cells: &mut [f32]) -> u32 {
 }
 
 // The card's designs for a quarter of the seeds; otherwise the drawn ones, with counts from 1 to 12.
-fn designs(seed: u32, counts: u32, coefs: &[f32; 36]) -> Designs {
+pub fn designs(seed: u32, counts: u32, coefs: &[f32; 36]) -> Designs {
     if seed / 2 % 4 == 0 {
         return card_designs();
     }

@@ -1,7 +1,9 @@
 // Replays the oracle's stored answers (stdin, a line each) and prints how many of them the library
 // gives: "P of T". The lines are those of `leaf_vectors`, `phase_vectors`,
-// `wave_vectors`, `decimate_vectors` and `single_vectors` of oracle/programs, which has their format.
+// `wave_vectors`, `decimate_vectors`, `single_vectors` and `block_vectors` of oracle/programs, which has
+// their format.
 mod answer;
+mod blocks;
 mod calls;
 mod decimations;
 mod phases;
@@ -60,14 +62,15 @@ fn modes_run(a: u32, b: u32) -> ModesRun {
     }
 }
 
-// Calls about one lane or about a block's spans.
+// Calls about one lane, about a block's spans or about its ranges.
 fn called(table: &[f32; 1025], op: u32, a: u32, b: u32) -> Hashed {
     let run = modes_run(a, b);
     let hash = match op {
         0x50 => singles::reads_lane_hash(table, run),
         0x51 => singles::shape_lane_hash(run),
         0x52 => stretches::prepare_hash(run),
-        _ => stretches::stretch_hash(run),
+        0x53 => stretches::stretch_hash(run),
+        _ => blocks::block_hash(table, run),
     };
     Hashed {
         count: run.count as u64,
