@@ -1,3 +1,3 @@
+pub mod Appends
 pub mod Few
 pub mod Moves
-pub mod Sums

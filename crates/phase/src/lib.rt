@@ -1,5 +1,6 @@
 // The phase stage of phase.rs: where the cycle is read. A slot's map takes each read of a list to one
 // or two reads, at most four in all; inter-oscillator modes move them.
+pub mod branches;
 pub mod edge;
 pub mod map;
 pub mod quantise;

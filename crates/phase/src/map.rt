@@ -1,5 +1,6 @@
-// The maps: one function for each arm of the Rust's `map`, each shaping one read, `word` weighted
-// `gain`, into `out`, at amount `a` with crossfades `half` cycles either side of each edge.
+// The maps: one function for each arm of the Rust's `map`, each saying what it makes of one read,
+// `word` weighted `gain`, at amount `a` with crossfades `half` cycles either side of each edge.
+use crate::branches::Branches;
 use crate::edge::LEAN_MAX;
 use crate::edge::lean_offset;
 use crate::edge::lean_strength;
@@ -27,10 +28,11 @@ use lanes::sin_cycles;
 use lanes::smoothstep;
 use lanes::to_word;
 ghost use mathlib.Core.Path.{_≡_};
-ghost use Prim.Native.Nat.{_<_, _≤_, max};
+ghost use Prim.Native.Nat.{_<_, _≤_};
 ghost use lib.ListN.{length};
 ghost use Rattle.floats.specs.Exp2.{entries};
 ghost use Rattle.phase.specs.Map.{syncMap, pinchMap, leanMap, pulseWidthMap, flipMap, mirrorMap, oddEvenMap, remapDrawnMap, remapMirroredMap, remapQuadMap, remapSineMap, mapOf, applyOf, shiftOf};
+ghost use Rattle.phase.specs.Branches.{Makes};
 
 pub const PULSE_MAX: f32 = 0.95;
 
@@ -46,17 +48,9 @@ pub struct Slot {
 
 // The slave runs `ratio` times faster and restarts with the cycle: after the restart it's at
 // ratio × t, before it at ratio × (t + 1). Softness widens the crossfade at the restart.
-fn sync(
-    powers: &[u32; 257],
-    character: f32,
-    a: f32,
-    half: f32,
-    word: u32,
-    gain: f32,
-    out: ReadList,
-) -> ReadList
+fn sync(powers: &[u32; 257], character: f32, a: f32, half: f32, word: u32, gain: f32) -> Branches
     requires { ⌜ now powers ≡ entries ⌝ }
-    ensures { λ r. ⌜ r ≡ syncMap character a half word gain out ⌝ }
+    ensures { λ r. ⌜ Makes r (syncMap character a half word gain) ⌝ }
 {
     let ratio = exp2(powers, a * 4.0);
     let t = signed(word);
@@ -67,13 +61,13 @@ fn sync(
     let wide = max(half, 0.5 * soft);
     let half = min(wide, 0.5);
     let weight = smoothstep((t + half) / (2.0 * half));
-    out.push_pair(after, weight, before, gain)
+    Branches::pair(after, weight, before, gain)
 }
 
 // A hyperbolic circle map at twice the cycle's rate: points flow towards the quarter points (inward)
 // or away from them.
-fn pinch(numbers: Numbers, mode: u32, a: f32, word: u32, gain: f32, out: ReadList) -> ReadList
-    ensures { λ r. ⌜ r ≡ pinchMap (numbers .sin) (numbers .atan) mode a word gain out ⌝ }
+fn pinch(numbers: Numbers, mode: u32, a: f32, word: u32, gain: f32) -> Branches
+    ensures { λ r. ⌜ Makes r (pinchMap (numbers .sin) (numbers .atan) mode a word gain) ⌝ }
 {
     let strength = pinch_strength(mode, a);
     let x = unit(word) * 2.0;
@@ -81,43 +75,43 @@ fn pinch(numbers: Numbers, mode: u32, a: f32, word: u32, gain: f32, out: ReadLis
     let k = cos_cycles(numbers, x);
     let angle = atan(numbers, strength * s / (strength * k + 1.0));
     let offset = -angle * (0.5 * FRAC_1_PI);
-    out.push(add_words(word, to_word(offset)), gain)
+    Branches::one(add_words(word, to_word(offset)), gain)
 }
 
-fn lean(numbers: Numbers, mode: u32, a: f32, word: u32, gain: f32, out: ReadList) -> ReadList
-    ensures { λ r. ⌜ r ≡ leanMap (numbers .sin) (numbers .atan) mode a word gain out ⌝ }
+fn lean(numbers: Numbers, mode: u32, a: f32, word: u32, gain: f32) -> Branches
+    ensures { λ r. ⌜ Makes r (leanMap (numbers .sin) (numbers .atan) mode a word gain) ⌝ }
 {
     let beta = lean_strength(mode, a);
     let offset = lean_offset(numbers, unit(word), beta);
-    out.push(add_words(word, to_word(offset)), gain)
+    Branches::one(add_words(word, to_word(offset)), gain)
 }
 
 // The cycle squeezed into its first `length`, then the start held: a box of the squeezed read and
 // the hold.
-fn pulse_width(a: f32, half: f32, word: u32, gain: f32, out: ReadList) -> ReadList
-    ensures { λ r. ⌜ r ≡ pulseWidthMap a half word gain out ⌝ }
+fn pulse_width(a: f32, half: f32, word: u32, gain: f32) -> Branches
+    ensures { λ r. ⌜ Makes r (pulseWidthMap a half word gain) ⌝ }
 {
     let length = 1.0 - a * PULSE_MAX;
     let centre = length * 0.5;
     let v = wrap(unit(word) - centre);
     let squeezed = to_word((centre + v) / length);
     let weight = smooth_box(v, centre, half);
-    out.push_pair(squeezed, weight, 0, gain)
+    Branches::pair(squeezed, weight, 0, gain)
 }
 
 // Inverted from 1 - a to the end of the cycle.
-fn flip(a: f32, half: f32, word: u32, gain: f32, out: ReadList) -> ReadList
-    ensures { λ r. ⌜ r ≡ flipMap a half word gain out ⌝ }
+fn flip(a: f32, half: f32, word: u32, gain: f32) -> Branches
+    ensures { λ r. ⌜ Makes r (flipMap a half word gain) ⌝ }
 {
     let half_length = a * 0.5;
     let v = wrap(unit(word) - (1.0 - half_length));
     let inverted = smooth_box(v, half_length, half);
-    out.weighted().push(word, gain * (1.0 - 2.0 * inverted))
+    Branches::weighted(word, gain * (1.0 - 2.0 * inverted))
 }
 
 // The first half of the wave, leaned, then the same backwards.
-fn mirror(numbers: Numbers, a: f32, half: f32, word: u32, gain: f32, out: ReadList) -> ReadList
-    ensures { λ r. ⌜ r ≡ mirrorMap (numbers .sin) (numbers .atan) a half word gain out ⌝ }
+fn mirror(numbers: Numbers, a: f32, half: f32, word: u32, gain: f32) -> Branches
+    ensures { λ r. ⌜ Makes r (mirrorMap (numbers .sin) (numbers .atan) a half word gain) ⌝ }
 {
     let beta = -a * LEAN_MAX;
     let v = wrap(unit(word) - 0.25);
@@ -126,55 +120,59 @@ fn mirror(numbers: Numbers, a: f32, half: f32, word: u32, gain: f32, out: ReadLi
     let forward = (forward_at + lean_offset(numbers, forward_at, beta)) * 0.5;
     let backward = (backward_at + lean_offset(numbers, backward_at, beta)) * 0.5;
     let weight = smooth_box(v, 0.25, half);
-    out.push_pair(to_word(forward), weight, to_word(backward), gain)
+    Branches::pair(to_word(forward), weight, to_word(backward), gain)
 }
 
 // Odd part (w(φ) - w(φ + 1/2)) / 2 and even part (w(φ) + w(φ + 1/2)) / 2, the odd at full level to
 // 50 % and the even from it.
-fn odd_even(a: f32, word: u32, gain: f32, out: ReadList) -> ReadList
-    ensures { λ r. ⌜ r ≡ oddEvenMap a word gain out ⌝ }
+fn odd_even(a: f32, word: u32, gain: f32) -> Branches
+    ensures { λ r. ⌜ Makes r (oddEvenMap a word gain) ⌝ }
 {
     let odd = min(2.0 * (1.0 - a), 1.0);
     let even = min(2.0 * a, 1.0);
-    let one = out.weighted().push(word, gain * (odd + even) * 0.5);
-    one.push(add_words(word, 0x8000_0000), gain * (even - odd) * 0.5)
+    Branches::both(
+        word,
+        gain * (odd + even) * 0.5,
+        add_words(word, 0x8000_0000),
+        gain * (even - odd) * 0.5,
+    )
 }
 
-fn remap_drawn(curve: &[f32], a: f32, word: u32, gain: f32, out: ReadList) -> ReadList
+fn remap_drawn(curve: &[f32], a: f32, word: u32, gain: f32) -> Branches
     requires { ⌜ 1024 < length (now curve) ⌝ }
-    ensures { λ r. ⌜ r ≡ remapDrawnMap (now (curve .entry)) a word gain out ⌝ }
+    ensures { λ r. ⌜ Makes r (remapDrawnMap (now (curve .entry)) a word gain) ⌝ }
 {
     let u = unit(word);
     let y = lookup(curve, u);
-    out.push(add_words(word, to_word(a * (y - u))), gain)
+    Branches::one(add_words(word, to_word(a * (y - u))), gain)
 }
 
-fn remap_mirrored(curve: &[f32], a: f32, word: u32, gain: f32, out: ReadList) -> ReadList
+fn remap_mirrored(curve: &[f32], a: f32, word: u32, gain: f32) -> Branches
     requires { ⌜ 1024 < length (now curve) ⌝ }
-    ensures { λ r. ⌜ r ≡ remapMirroredMap (now (curve .entry)) a word gain out ⌝ }
+    ensures { λ r. ⌜ Makes r (remapMirroredMap (now (curve .entry)) a word gain) ⌝ }
 {
     let u = unit(word);
     let second = above(u - 0.5);
     let x = pick(second, u * 2.0, 2.0 - u * 2.0);
     let y = remap(curve, a, x) * 0.5;
-    out.push(to_word(pick(second, y, 1.0 - y)), gain)
+    Branches::one(to_word(pick(second, y, 1.0 - y)), gain)
 }
 
-fn remap_quad(curve: &[f32], a: f32, word: u32, gain: f32, out: ReadList) -> ReadList
+fn remap_quad(curve: &[f32], a: f32, word: u32, gain: f32) -> Branches
     requires { ⌜ 1024 < length (now curve) ⌝ }
-    ensures { λ r. ⌜ r ≡ remapQuadMap (now (curve .entry)) a word gain out ⌝ }
+    ensures { λ r. ⌜ Makes r (remapQuadMap (now (curve .entry)) a word gain) ⌝ }
 {
     let u = unit(word) * 4.0;
     let quarter = floor(u);
     let y = (quarter + remap(curve, a, u - quarter)) * 0.25;
-    out.push(to_word(y), gain)
+    Branches::one(to_word(y), gain)
 }
 
-fn remap_sine(numbers: Numbers, a: f32, word: u32, gain: f32, out: ReadList) -> ReadList
-    ensures { λ r. ⌜ r ≡ remapSineMap (numbers .sin) a word gain out ⌝ }
+fn remap_sine(numbers: Numbers, a: f32, word: u32, gain: f32) -> Branches
+    ensures { λ r. ⌜ Makes r (remapSineMap (numbers .sin) a word gain) ⌝ }
 {
     let offset = -a * sin_cycles(numbers, unit(word)) * (1.0 / TAU);
-    out.push(add_words(word, to_word(offset)), gain)
+    Branches::one(add_words(word, to_word(offset)), gain)
 }
 
 // One read through a slot's map; a mode that is no phase mode, or moves the phase by a source, keeps it.
@@ -187,30 +185,29 @@ fn map(
     half: f32,
     word: u32,
     gain: f32,
-    out: ReadList,
-) -> ReadList
+) -> Branches
     requires { ⌜ now powers ≡ entries ⌝ ∗ ⌜ 1024 < length (now curve) ⌝ }
-    ensures { λ r. ⌜ r ≡ mapOf (numbers .sin) (numbers .atan) (now (curve .entry)) slot a half word gain out ⌝ }
+    ensures { λ r. ⌜ Makes r (mapOf (numbers .sin) (numbers .atan) (now (curve .entry)) slot a half word gain) ⌝ }
 {
     let mode = slot.mode;
     match mode {
-        1 => sync(powers, slot.character, a, half, word, gain, out),
-        2 => pinch(numbers, mode, a, word, gain, out),
-        3 => pinch(numbers, mode, a, word, gain, out),
-        4 => pinch(numbers, mode, a, word, gain, out),
-        5 => pulse_width(a, half, word, gain, out),
-        6 => lean(numbers, mode, a, word, gain, out),
-        7 => lean(numbers, mode, a, word, gain, out),
-        8 => lean(numbers, mode, a, word, gain, out),
-        9 => flip(a, half, word, gain, out),
-        10 => mirror(numbers, a, half, word, gain, out),
-        11 => remap_drawn(curve, a, word, gain, out),
-        12 => remap_mirrored(curve, a, word, gain, out),
-        13 => remap_sine(numbers, a, word, gain, out),
-        14 => remap_quad(curve, a, word, gain, out),
-        15 => quantise(powers, a, half, word, gain, out),
-        16 => odd_even(a, word, gain, out),
-        _ => out.push(word, gain),
+        1 => sync(powers, slot.character, a, half, word, gain),
+        2 => pinch(numbers, mode, a, word, gain),
+        3 => pinch(numbers, mode, a, word, gain),
+        4 => pinch(numbers, mode, a, word, gain),
+        5 => pulse_width(a, half, word, gain),
+        6 => lean(numbers, mode, a, word, gain),
+        7 => lean(numbers, mode, a, word, gain),
+        8 => lean(numbers, mode, a, word, gain),
+        9 => flip(a, half, word, gain),
+        10 => mirror(numbers, a, half, word, gain),
+        11 => remap_drawn(curve, a, word, gain),
+        12 => remap_mirrored(curve, a, word, gain),
+        13 => remap_sine(numbers, a, word, gain),
+        14 => remap_quad(curve, a, word, gain),
+        15 => quantise(powers, a, half, word, gain),
+        16 => odd_even(a, word, gain),
+        _ => Branches::one(word, gain),
     }
 }
 
@@ -236,9 +233,9 @@ pub fn apply(
     if n == 0 {
         return out;
     }
-    // The first read stands apart: with `map` at two places the compiler keeps it a function, and
-    // does not work out every mode's numbers before a loop.
-    out = map(
+    // Each read has its own place, so that the list can stay in registers; and with `map` at more than
+    // one place the compiler keeps it a function, and does not work out every mode's numbers for each.
+    let first = map(
         powers,
         numbers,
         curve,
@@ -247,40 +244,72 @@ pub fn apply(
         half,
         words[0],
         gains[0],
-        out,
     );
-    for i in 1..n {
-        out = map(
-            powers,
-            numbers,
-            curve,
-            slot,
-            amount,
-            half,
-            words[i],
-            gains[i],
-            out,
-        );
+    out = out.append(first);
+    if n == 1 {
+        return out;
     }
-    out
+    let second = map(
+        powers,
+        numbers,
+        curve,
+        slot,
+        amount,
+        half,
+        words[1],
+        gains[1],
+    );
+    out = out.append(second);
+    if n == 2 {
+        return out;
+    }
+    let third = map(
+        powers,
+        numbers,
+        curve,
+        slot,
+        amount,
+        half,
+        words[2],
+        gains[2],
+    );
+    out = out.append(third);
+    if n == 3 {
+        return out;
+    }
+    let fourth = map(
+        powers,
+        numbers,
+        curve,
+        slot,
+        amount,
+        half,
+        words[3],
+        gains[3],
+    );
+    out.append(fourth)
 }
 
-// A list of none has one word in use.
-fn in_use(count: usize) -> usize
-    ensures { λ r. ⌜ r ≡ max count 1 ⌝ }
-{
-    if count < 1 { 1 } else { count }
-}
-
-// Moves every read in `list` on by `offset` words: where an inter-oscillator mode adds its own phase.
+// Moves every read in `list` on by `offset` words: where an inter-oscillator mode adds its own phase. A
+// list of none has one word in use.
 pub fn shift(list: ReadList, offset: u32) -> ReadList
     requires { ⌜ list .count ≤ 4 ⌝ }
     ensures { λ r. ⌜ r ≡ shiftOf list offset ⌝ }
 {
-    let n = in_use(list.count);
+    let n = list.count;
     let mut out = list;
-    for i in 0..n {
-        out.word[i] = add_words(out.word[i], offset);
+    out.word[0] = add_words(out.word[0], offset);
+    if n < 2 {
+        return out;
     }
+    out.word[1] = add_words(out.word[1], offset);
+    if n < 3 {
+        return out;
+    }
+    out.word[2] = add_words(out.word[2], offset);
+    if n < 4 {
+        return out;
+    }
+    out.word[3] = add_words(out.word[3], offset);
     out
 }

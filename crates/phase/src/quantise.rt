@@ -1,7 +1,7 @@
 // Quantise: `steps` steps a cycle, each holding the wave's value at its start, crossfaded into the
 // next over at most half a step; as the steps grow shorter than a crossfade, both reads move onto the
 // running phase, so the steps fade into the plain wave instead of folding.
-use crate::reads::ReadList;
+use crate::branches::Branches;
 use floats::abs;
 use floats::exp2;
 use floats::floor;
@@ -15,6 +15,7 @@ use lanes::to_word;
 ghost use mathlib.Core.Path.{_≡_};
 ghost use Rattle.floats.specs.Exp2.{entries};
 ghost use Rattle.phase.specs.Quantise.{stepsOf, lineOf, edgeOf, branchOf, quantiseOf};
+ghost use Rattle.phase.specs.Branches.{Makes};
 
 // f32::MAX.
 const MAX: f32 = 3.4028235e38;
@@ -100,21 +101,14 @@ fn branch(target: f32, toward: f32, at: f32) -> u32
     to_word((target - at) * toward + at)
 }
 
-pub fn quantise(
-    powers: &[u32; 257],
-    a: f32,
-    half: f32,
-    word: u32,
-    gain: f32,
-    out: ReadList,
-) -> ReadList
+pub fn quantise(powers: &[u32; 257], a: f32, half: f32, word: u32, gain: f32) -> Branches
     requires { ⌜ now powers ≡ entries ⌝ }
-    ensures { λ r. ⌜ r ≡ quantiseOf a half word gain out ⌝ }
+    ensures { λ r. ⌜ Makes r (quantiseOf a half word gain) ⌝ }
 {
     let s = steps_of(powers, a, half);
     let e = edge_of(s.steps, s.step, word);
     let left = branch(e.target, s.toward, e.left);
     let right = branch(e.target, s.toward, e.right);
     let weight = smoothstep((e.distance + s.half) / (2.0 * s.half));
-    out.push_pair(right, weight, left, gain)
+    Branches::pair(right, weight, left, gain)
 }

@@ -1,12 +1,10 @@
 // Read lists: up to four weighted reads of the cycle.
-use lanes::above;
-use lanes::any;
-use lanes::pick;
-use lanes::pick_word;
+use crate::branches::Branches;
 ghost use mathlib.Core.Path.{_≡_};
 ghost use Prim.Native.Nat.{_≤_};
 ghost use lib.ListN.{length};
-ghost use Rattle.phase.specs.Reads.{startOf, emptyOf, weightedOf, pushOf, aFirst, pushPair, oneRead, outgoingOf, cycleAt, readSum};
+ghost use Rattle.phase.specs.Reads.{startOf, emptyOf, weightedOf, pushOf, oneRead, outgoingOf, cycleAt, readSum};
+ghost use Rattle.phase.specs.Branches.{appended};
 
 // The most reads of a list.
 pub const MAX_READS: usize = 4;
@@ -41,13 +39,6 @@ impl LaneReads {
     }
 }
 
-// Whether a pair's first branch, `a` weighted `wa`, comes before `b`: 1 or 0.
-fn a_first(wa: f32) -> f32
-    ensures { λ r. ⌜ r ≡ aFirst wa ⌝ }
-{
-    above(wa - 0.5)
-}
-
 impl ReadList {
     // One read at `word`, unweighted.
     pub fn start(word: u32) -> ReadList
@@ -78,34 +69,49 @@ impl ReadList {
         out
     }
 
-    // One read more, where there is room.
+    // One read more, where there is room. By cases, so that the list can stay in registers.
     pub fn push(self, word: u32, gain: f32) -> ReadList
         ensures { λ r. ⌜ r ≡ pushOf self word gain ⌝ }
     {
         let at = self.count;
         let mut out = self;
-        if at < MAX_READS {
-            out.word[at] = word;
-            out.gain[at] = gain;
-            out.count = at + 1;
+        match at {
+            0 => {
+                out.word[0] = word;
+                out.gain[0] = gain;
+                out.count = 1;
+            }
+            1 => {
+                out.word[1] = word;
+                out.gain[1] = gain;
+                out.count = 2;
+            }
+            2 => {
+                out.word[2] = word;
+                out.gain[2] = gain;
+                out.count = 3;
+            }
+            3 => {
+                out.word[3] = word;
+                out.gain[3] = gain;
+                out.count = 4;
+            }
+            _ => {}
         }
         out
     }
 
-    // Two branches, `a` weighted `wa` and `b` weighted 1 - `wa`, each also weighted `gain`: the
-    // heavier first, and the lighter only if it has any weight.
-    pub fn push_pair(self, a: u32, wa: f32, b: u32, gain: f32) -> ReadList
-        ensures { λ r. ⌜ r ≡ pushPair self a wa b gain ⌝ }
+    // The list with the reads of `b` after its own.
+    pub fn append(self, b: Branches) -> ReadList
+        ensures { λ r. ⌜ r ≡ appended b self ⌝ }
     {
-        let wb = 1.0 - wa;
-        let mask = a_first(wa);
-        let first = pick_word(mask, b, a);
-        let second = pick_word(mask, a, b);
-        let first_weight = pick(mask, wb, wa);
-        let second_weight = 1.0 - first_weight;
-        let one = self.weighted().push(first, first_weight * gain);
-        if any(second_weight) {
-            one.push(second, second_weight * gain)
+        let kind = b.kind;
+        if kind == 0 {
+            return self.push(b.word0, b.gain0);
+        }
+        let one = self.weighted().push(b.word0, b.gain0);
+        if kind == 2 {
+            one.push(b.word1, b.gain1)
         } else {
             one
         }
@@ -131,7 +137,7 @@ pub fn read_cycle(cycle: &[f32], word: u32) -> f32
 }
 
 // The sum of a list's reads: of count 0 the first word's with no gain, otherwise the products from the
-// first on, in list order.
+// first on, in list order. Each read has its own place, so that the list can stay in registers.
 pub fn read_sum(cycle: &[f32], reads: LaneReads) -> f32
     requires { ⌜ 2048 ≤ length (now cycle) ⌝ ∗ ⌜ reads .count ≤ 4 ⌝ }
     ensures { λ r. ⌜ r ≡ readSum (now (cycle .entry)) reads ⌝ }
@@ -142,9 +148,17 @@ pub fn read_sum(cycle: &[f32], reads: LaneReads) -> f32
     if count == 0 {
         return read_cycle(cycle, phase[0]);
     }
-    let mut sum = gain[0] * read_cycle(cycle, phase[0]);
-    for i in 1..count {
-        sum = sum + gain[i] * read_cycle(cycle, phase[i]);
+    let sum = gain[0] * read_cycle(cycle, phase[0]);
+    if count == 1 {
+        return sum;
     }
-    sum
+    let sum = sum + gain[1] * read_cycle(cycle, phase[1]);
+    if count == 2 {
+        return sum;
+    }
+    let sum = sum + gain[2] * read_cycle(cycle, phase[2]);
+    if count == 3 {
+        return sum;
+    }
+    sum + gain[3] * read_cycle(cycle, phase[3])
 }

@@ -23,7 +23,7 @@ use Rattle.render.specs.declared.cells.Voice.{Voice}
 use Rattle.render.specs.declared.cells.Stepped.{Stepped}
 use Rattle.render.specs.declared.cells.HostFrame.{HostFrame}
 use Rattle.render.specs.Lane.{Lent, Inputs, inputsOf, stepAt, voiceAfter, sampleAt}
-use Rattle.render.specs.Frames.{frameOf, hostAt, frameAt, Cut, Frames, Ran}
+use Rattle.render.specs.Frames.{rawOf, frameOf, hostAt, frameAt, Cut, Frames, Ran}
 use Rattle.render.proofs.InputLaws.{inputs-controls, inputs-inner, inputs-curve, inputs-cycle, inputs-words, inputs-steps}
 use Rattle.render.proofs.VoiceLaws.{voice-none, voice-more, voice-add, sample-is, sample-add}
 
@@ -40,7 +40,7 @@ pub step-frame : (b : BlockSettings) (i : Inputs) (host sub : ℕ) (v : Voice) �
     ≡ frameAt (b .shaper) (fmScale (b .rate) (b .shaper .factor))
     (hostAt (i .controls .base0) (i .controls .base1) (i .controls .mod0) (i .controls .mod1) (i .inner) host)
     (i .controls .source0) (i .controls .source1) (i .curve) (i .cycle) (i .words) (i .steps) host sub v
-unfolding stepAt readsAt shapedAt control0At control1At controlAt frameAt frameOf hostAt _>>=_
+unfolding stepAt readsAt shapedAt control0At control1At controlAt frameAt frameOf rawOf hostAt _>>=_
 step-frame b i host sub v h = rw (host-of host (b .shaper .factor) sub h, sub-of host (b .shaper .factor) sub h)
 
 -- the same, by the inputs' own names

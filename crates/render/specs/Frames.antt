@@ -21,19 +21,25 @@ use Rattle.controls.specs.Places.{Spot, Holds}
 use Rattle.shaper.specs.declared.settings.Settings.{Settings}
 use Rattle.render.specs.declared.cells.BlockSettings.{BlockSettings}
 use Rattle.render.specs.declared.cells.Voice.{Voice}
+use Rattle.render.specs.declared.cells.Raw.{Raw}
 use Rattle.render.specs.declared.cells.Stepped.{Stepped}
 use Rattle.render.specs.declared.cells.HostFrame.{HostFrame}
 use Rattle.render.specs.Lane.{Inputs, voiceAfter, sampleAt}
 
+-- what a lane reads of the cycle, and the FM carry after it
+unfoldable pub rawOf : Settings → Float → List Float → List Float → Control → Control → Float → ℕ → ℕ → Float → Float → Raw
+rawOf s scale curve cycle control0 control1 inner word step fm0 fm1 = do
+  reads ← readsOf (s .numbers .sin) (s .numbers .atan) curve (s .slot0) (s .slot1) (s .factor) scale control0 control1 inner word step fm0 fm1
+  record { x = readSum cycle (reads .reads); fm0 = reads .fm0; fm1 = reads .fm1 }
+
 -- one rendered frame, from what drives the slots, the prepared slope, the phase word and its step
 unfoldable pub frameOf : Settings → Float → List Float → List Float → Control → Control → Float → ℕ → ℕ → Voice → Stepped
 frameOf s scale curve cycle control0 control1 inner word step v = do
-  reads ← readsOf (s .numbers .sin) (s .numbers .atan) curve (s .slot0) (s .slot1) (s .factor) scale control0 control1 inner word step (v .fm0) (v .fm1)
-  x ← readSum cycle (reads .reads)
-  shaped ← shapedOf (s .numbers .sin) (s .slot0) (s .slot1) control0 control1 step x (v .pairs0) (v .pairs1) (v .last)
+  raw ← rawOf s scale curve cycle control0 control1 inner word step (v .fm0) (v .fm1)
+  shaped ← shapedOf (s .numbers .sin) (s .slot0) (s .slot1) control0 control1 step (raw .x) (v .pairs0) (v .pairs1) (v .last)
   record {
     sample = shaped .y;
-    voice = record { pairs0 = shaped .pairs0; pairs1 = shaped .pairs1; fm0 = reads .fm0; fm1 = reads .fm1; last = shaped .last };
+    voice = record { pairs0 = shaped .pairs0; pairs1 = shaped .pairs1; fm0 = raw .fm0; fm1 = raw .fm1; last = shaped .last };
   }
 
 -- what holds for a whole host frame

@@ -1,16 +1,19 @@
 // The rendered frames of one lane.
 use crate::cells::BlockSettings;
 use crate::cells::HostFrame;
+use crate::cells::Raw;
 use crate::cells::Stepped;
 use crate::cells::Voice;
 use controls::amount_at;
 use controls::heard_at;
 use grid::place;
+use phase::read_cycle;
 use phase::read_sum;
 use shaper::Range;
 use shaper::Settings;
 use voice::Control;
 use voice::fm_scale;
+use voice::in_phase;
 use voice::reads_of;
 use voice::shape_of;
 ghost use mathlib.Core.Path.{_≡_};
@@ -24,7 +27,60 @@ ghost use Rattle.controls.specs.Controls.{lentOf};
 ghost use Rattle.render.specs.Lane.{inputsOf};
 ghost use Rattle.render.specs.Share.{firstFrame, frameCount};
 ghost use Rattle.render.specs.Promises.{lent, Limits, Readable};
-ghost use Rattle.render.specs.Frames.{frameOf, hostAt, frameAt, Hosted, Framed, Cut, Room, Frames, Ran};
+ghost use Rattle.render.specs.Frames.{rawOf, frameOf, hostAt, frameAt, Hosted, Framed, Cut, Room, Frames, Ran};
+
+// What a lane reads of the cycle, and the FM carry after it. Without a slot in the phase stage that is
+// one read at the running word, and no list is made.
+fn raw_of(
+    powers: &[u32; 257],
+    s: Settings,
+    scale: f32,
+    curve: &[f32],
+    cycle: &[f32],
+    control0: Control,
+    control1: Control,
+    inner: f32,
+    word: u32,
+    step: u32,
+    fm0: f32,
+    fm1: f32,
+) -> Raw
+    requires { ⌜ now powers ≡ entries ⌝ ∗ ⌜ 1025 ≤ length (now curve) ⌝ ∗ ⌜ 2048 ≤ length (now cycle) ⌝ }
+    ensures { λ r. ⌜ r ≡ rawOf s scale (now (curve .entry)) (now (cycle .entry)) control0 control1 inner word step fm0 fm1 ⌝ }
+{
+    let slot0 = s.slot0;
+    let slot1 = s.slot1;
+    if !(in_phase(slot0.mode) | in_phase(slot1.mode)) {
+        return Raw {
+            x: read_cycle(cycle, word),
+            fm0: fm0,
+            fm1: fm1,
+        };
+    }
+    let numbers = s.numbers;
+    let reads = reads_of(
+        powers,
+        numbers,
+        curve,
+        slot0,
+        slot1,
+        s.factor,
+        scale,
+        control0,
+        control1,
+        inner,
+        word,
+        step,
+        fm0,
+        fm1,
+    );
+    let list = reads.reads;
+    Raw {
+        x: read_sum(cycle, list),
+        fm0: reads.fm0,
+        fm1: reads.fm1,
+    }
+}
 
 // One rendered frame, from what drives the slots, the prepared slope, the phase word and its step.
 fn frame_of(
@@ -46,14 +102,12 @@ fn frame_of(
     let numbers = s.numbers;
     let slot0 = s.slot0;
     let slot1 = s.slot1;
-    let reads = reads_of(
+    let raw = raw_of(
         powers,
-        numbers,
-        curve,
-        slot0,
-        slot1,
-        s.factor,
+        s,
         scale,
+        curve,
+        cycle,
         control0,
         control1,
         inner,
@@ -62,8 +116,7 @@ fn frame_of(
         v.fm0,
         v.fm1,
     );
-    let list = reads.reads;
-    let x = read_sum(cycle, list);
+    let x = raw.x;
     let before0 = v.pairs0;
     let before1 = v.pairs1;
     let shaped = shape_of(
@@ -84,8 +137,8 @@ fn frame_of(
     let voice = Voice {
         pairs0: pairs0,
         pairs1: pairs1,
-        fm0: reads.fm0,
-        fm1: reads.fm1,
+        fm0: raw.fm0,
+        fm1: raw.fm1,
         last: shaped.last,
     };
     Stepped {

@@ -2,3 +2,4 @@
 pub mod Counts
 pub mod NotOwn
 pub mod Offsets
+pub mod NotWave

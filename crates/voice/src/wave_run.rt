@@ -49,6 +49,26 @@ fn slot_of(
     wave::shape(powers, numbers, slot.mode, setting, increment, x, state)
 }
 
+// The same, for a slot in either stage: one that is not in the wave stage leaves sample and state, and
+// no setting is made for it.
+fn slot_at(
+    powers: &[u32; 257],
+    numbers: Numbers,
+    slot: Slot,
+    control: Control,
+    increment: f32,
+    x: f32,
+    state: Svf,
+) -> Filtered
+    requires { ⌜ now powers ≡ entries ⌝ }
+    ensures { λ r. ⌜ r ≡ slotOf (numbers .sin) slot control increment x state ⌝ }
+{
+    if in_wave(slot.mode) {
+        return slot_of(powers, numbers, slot, control, increment, x, state);
+    }
+    Filtered { y: x, state: state }
+}
+
 // The sample `x` of a lane at one rendered frame, shaped by slot 0 and then slot 1.
 pub fn shape_of(
     powers: &[u32; 257],
@@ -72,8 +92,8 @@ pub fn shape_of(
     } else {
         last
     };
-    let first = slot_of(powers, numbers, slot0, control0, increment, x, pairs0);
-    let second = slot_of(powers, numbers, slot1, control1, increment, first.y, pairs1);
+    let first = slot_at(powers, numbers, slot0, control0, increment, x, pairs0);
+    let second = slot_at(powers, numbers, slot1, control1, increment, first.y, pairs1);
     let state0 = first.state;
     let state1 = second.state;
     Shaped {

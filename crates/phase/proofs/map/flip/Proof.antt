@@ -7,4 +7,4 @@ use Rattle.phase.proofs.map.flip.Tie as tie
 
 pub flip-spec : {M : Type 1} → statement M
 unfolding flipMap
-flip-spec = tie.close (tie.spec (λ c κs. search needs) (λ c κs. search needs) (λ c κs. search needs) (λ c κs. search needs) (λ c κs. search needs) (λ c. search steps depth 12))
+flip-spec = tie.close (tie.spec (λ c κs. search needs) (λ c κs. search needs) (λ c κs. search needs) (λ c κs. search needs) (λ c out. search (steps, c .weighted .ensures) depth 12))

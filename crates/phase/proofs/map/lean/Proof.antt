@@ -7,4 +7,4 @@ use Rattle.phase.proofs.map.lean.Tie as tie
 
 pub lean-spec : {M : Type 1} → statement M
 unfolding leanMap
-lean-spec = tie.close (tie.spec (λ c κs. search needs) (λ c κs. search needs) (λ c κs. search needs) (λ c κs. search needs) (λ c κs. search needs) (λ c κs. search needs) (λ c. search steps depth 12))
+lean-spec = tie.close (tie.spec (λ c κs. search needs) (λ c κs. search needs) (λ c κs. search needs) (λ c κs. search needs) (λ c κs. search needs) (λ c κs. search needs) (λ c out. search (steps, c .one .ensures) depth 12))

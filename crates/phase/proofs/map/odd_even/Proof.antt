@@ -7,4 +7,4 @@ use Rattle.phase.proofs.map.odd_even.Tie as tie
 
 pub odd-even-spec : {M : Type 1} → statement M
 unfolding oddEvenMap
-odd-even-spec = tie.close (tie.spec (λ c κs. search needs) (λ c κs. search needs) (λ c κs. search needs) (λ c κs. search needs) (λ c κs. search needs) (λ c κs. search needs) (λ c. search steps depth 12))
+odd-even-spec = tie.close (tie.spec (λ c κs. search needs) (λ c κs. search needs) (λ c κs. search needs) (λ c κs. search needs) (λ c out. search (steps, c .both .ensures) depth 12))

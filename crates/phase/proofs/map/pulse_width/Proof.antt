@@ -7,4 +7,4 @@ use Rattle.phase.proofs.map.pulse_width.Tie as tie
 
 pub pulse-width-spec : {M : Type 1} → statement M
 unfolding pulseWidthMap
-pulse-width-spec = tie.close (tie.spec (λ c κs. search needs) (λ c κs. search needs) (λ c κs. search needs) (λ c κs. search needs) (λ c κs. search needs) (λ c. search steps depth 12))
+pulse-width-spec = tie.close (tie.spec (λ c κs. search needs) (λ c κs. search needs) (λ c κs. search needs) (λ c κs. search needs) (λ c κs. search needs) (λ c out. search (steps, c .pair .ensures) depth 12))

@@ -7,4 +7,4 @@ use Rattle.phase.proofs.map.remap_drawn.Tie as tie
 
 pub remap-drawn-spec : {M : Type 1} → statement M
 unfolding remapDrawnMap
-remap-drawn-spec = tie.close (tie.spec (λ c κs. search needs) (λ c κs. search needs) (λ c κs. search needs) (λ c κs. search needs) (λ c κs. search needs) (λ c. search steps depth 12))
+remap-drawn-spec = tie.close (tie.spec (λ c κs. search needs) (λ c κs. search needs) (λ c κs. search needs) (λ c κs. search needs) (λ c κs. search needs) (λ c out. search (steps, c .one .ensures) depth 12))

@@ -1,75 +1,67 @@
--- `phase::shift` meets its contract: the words so far are moved. Assumes nothing.
-use mathlib.Core.Path.{_≡_, refl}
-use Prim.Native.Nat.{_≤_, _<_, _-_}
-use native.Mathlib.Numerals.{add-one}
+-- `phase::shift` meets its contract: one way of the code for each count. Assumes nothing.
+use mathlib.Core.Path.{_≡_}
+use Prim.Native.Nat.{max}
 use lib.ListN.{length}
-use Rattle.phase.specs.Map.{moveFirst, shiftOf}
-use Rattle.phase.proofs.Moves.{move-next}
+use Rattle.phase.proofs.Moves.{move-none, move-more, moved-all}
 use borrow.Author.Needs.{needs}
 use native.Mathlib.Omega.{arith}
 use Rattle.phase.proofs.map.shift.Statement.{statement}
 use Rattle.phase.proofs.map.shift.Tie as tie
 
-abbrev Inv-loop : tie.InvT-loop
-Inv-loop offset n out₀ i₀ out i = (i ≤ n) × (out ≡ record { word = moveFirst offset i (out₀ .word); gain = out₀ .gain; count = out₀ .count; weighted = out₀ .weighted })
+long : (c : tie.After-add-words) → length (c .before .before .args .list .word) ≡ 4
+long c = search needs
 
-abbrev μ-loop : tie.MeasureT-loop
-μ-loop offset n out₀ i₀ out i = n - i
-
-in-use-requires : tie.Need-in-use-requires Inv-loop μ-loop
-in-use-requires c κs = search needs
-
-loop-holds : tie.Need-loop-holds Inv-loop μ-loop
-unfolding moveFirst
-loop-holds c = (omega arith, refl)
-
-mul-add-words : tie.Need-mul-add-words Inv-loop μ-loop
-mul-add-words c = search needs
-
-element-copy-out-add-words : tie.Need-element-copy-out-add-words Inv-loop μ-loop
-element-copy-out-add-words c = search needs
-
-add-words-requires : tie.Need-add-words-requires Inv-loop μ-loop
-add-words-requires c κs = search needs
-
-mul-out : tie.Need-mul-out Inv-loop μ-loop
-mul-out c = search needs
-
-element-write-out : tie.Need-element-write-out Inv-loop μ-loop
-element-write-out c = search needs
-
-add-i : tie.Need-add-i Inv-loop μ-loop
-add-i c = search needs
-
-loop-less : tie.Need-loop-less Inv-loop μ-loop
-loop-less c = search needs
-
-loop-again : tie.Need-loop-again Inv-loop μ-loop
-loop-again c =
-    let l : length (c .before .before .before .before .before .args .list .word) ≡ 4 = search needs in
-    let h : c .before .before .before .loop .i < length (c .before .before .before .before .before .args .list .word) = omega arith in
-    (omega arith, rw (c .add-words .ensures, c .before .before .before .loop .inv .1, add-one, move-next _ _ _ h))
-
-returns : tie.Need-returns Inv-loop μ-loop
-unfolding shiftOf
+returns : tie.Need-returns
 returns c =
-    let e : c .before .loop .i ≡ c .before .before .in-use .result = omega arith in
-    rw (e, c .before .before .in-use .ensures) at (c .before .loop .inv .1)
+    let l = long (c .before) in
+    let m1 = move-more (c .before .before .before .args .offset) 0 (c .before .before .before .args .list .word) _ (c .before .add-words .result) (omega (arith, l)) (move-none _ _) (c .before .add-words .ensures) in
+    let e : max (c .before .before .before .args .list .count) 1 ≡ 1 = omega arith in
+    moved-all (c .before .before .before .args .list) _ _ _ m1 e
+
+returns-2 : tie.Need-returns-2
+returns-2 c =
+    let l = long (c .before .before .before .before) in
+    let m1 = move-more (c .before .before .before .before .before .before .args .offset) 0 (c .before .before .before .before .before .before .args .list .word) _ (c .before .before .before .before .add-words .result) (omega (arith, l)) (move-none _ _) (c .before .before .before .before .add-words .ensures) in
+    let m2 = move-more (c .before .before .before .before .before .before .args .offset) 1 (c .before .before .before .before .before .before .args .list .word) _ (c .before .add-words2 .result) (omega (arith, l)) m1 (c .before .add-words2 .ensures) in
+    let e : max (c .before .before .before .before .before .before .args .list .count) 1 ≡ 2 = omega arith in
+    moved-all (c .before .before .before .before .before .before .args .list) _ _ _ m2 e
+
+returns-3 : tie.Need-returns-3
+returns-3 c =
+    let l = long (c .before .before .before .before .before .before .before) in
+    let m1 = move-more (c .before .before .before .before .before .before .before .before .before .args .offset) 0 (c .before .before .before .before .before .before .before .before .before .args .list .word) _ (c .before .before .before .before .before .before .before .add-words .result) (omega (arith, l)) (move-none _ _) (c .before .before .before .before .before .before .before .add-words .ensures) in
+    let m2 = move-more (c .before .before .before .before .before .before .before .before .before .args .offset) 1 (c .before .before .before .before .before .before .before .before .before .args .list .word) _ (c .before .before .before .before .add-words2 .result) (omega (arith, l)) m1 (c .before .before .before .before .add-words2 .ensures) in
+    let m3 = move-more (c .before .before .before .before .before .before .before .before .before .args .offset) 2 (c .before .before .before .before .before .before .before .before .before .args .list .word) _ (c .before .add-words3 .result) (omega (arith, l)) m2 (c .before .add-words3 .ensures) in
+    let e : max (c .before .before .before .before .before .before .before .before .before .args .list .count) 1 ≡ 3 = omega arith in
+    moved-all (c .before .before .before .before .before .before .before .before .before .args .list) _ _ _ m3 e
+
+returns-4 : tie.Need-returns-4
+returns-4 c =
+    let l = long (c .before .before .before .before .before .before .before .before .before) in
+    let m1 = move-more (c .before .before .before .before .before .before .before .before .before .before .before .args .offset) 0 (c .before .before .before .before .before .before .before .before .before .before .before .args .list .word) _ (c .before .before .before .before .before .before .before .before .before .add-words .result) (omega (arith, l)) (move-none _ _) (c .before .before .before .before .before .before .before .before .before .add-words .ensures) in
+    let m2 = move-more (c .before .before .before .before .before .before .before .before .before .before .before .args .offset) 1 (c .before .before .before .before .before .before .before .before .before .before .before .args .list .word) _ (c .before .before .before .before .before .before .add-words2 .result) (omega (arith, l)) m1 (c .before .before .before .before .before .before .add-words2 .ensures) in
+    let m3 = move-more (c .before .before .before .before .before .before .before .before .before .before .before .args .offset) 2 (c .before .before .before .before .before .before .before .before .before .before .before .args .list .word) _ (c .before .before .before .add-words3 .result) (omega (arith, l)) m2 (c .before .before .before .add-words3 .ensures) in
+    let m4 = move-more (c .before .before .before .before .before .before .before .before .before .before .before .args .offset) 3 (c .before .before .before .before .before .before .before .before .before .before .before .args .list .word) _ (c .add-words4 .result) (omega (arith, l)) m3 (c .add-words4 .ensures) in
+    let e : max (c .before .before .before .before .before .before .before .before .before .before .before .args .list .count) 1 ≡ 4 = omega arith in
+    moved-all (c .before .before .before .before .before .before .before .before .before .before .before .args .list) _ _ _ m4 e
 
 pub shift-spec : {M : Type 1} → statement M
 shift-spec =
     tie.close
     (tie.spec
-    Inv-loop
-    μ-loop
-    in-use-requires
-    loop-holds
-    mul-add-words
-    element-copy-out-add-words
-    add-words-requires
-    mul-out
-    element-write-out
-    add-i
-    loop-less
-    loop-again
-    returns)
+    (λ c. search needs)
+    (λ c κs. search needs)
+    (λ c. search needs)
+    returns
+    (λ c. search needs)
+    (λ c κs. search needs)
+    (λ c. search needs)
+    returns-2
+    (λ c. search needs)
+    (λ c κs. search needs)
+    (λ c. search needs)
+    returns-3
+    (λ c. search needs)
+    (λ c κs. search needs)
+    (λ c. search needs)
+    returns-4)

@@ -7,4 +7,4 @@ use Rattle.phase.proofs.quantise.quantise.Tie as tie
 
 pub quantise-spec : {M : Type 1} → statement M
 unfolding quantiseOf
-quantise-spec = tie.close (tie.spec (λ c κs. search needs) (λ c κs. search needs) (λ c κs. search needs) (λ c κs. search needs) (λ c κs. search needs) (λ c κs. search needs) (λ c. search steps depth 12))
+quantise-spec = tie.close (tie.spec (λ c κs. search needs) (λ c κs. search needs) (λ c κs. search needs) (λ c κs. search needs) (λ c κs. search needs) (λ c κs. search needs) (λ c out. search (steps, c .pair .ensures) depth 12))

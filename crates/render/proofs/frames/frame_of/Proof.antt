@@ -7,12 +7,7 @@ use Rattle.render.proofs.frames.frame_of.Tie as tie
 
 returns : tie.Need-returns
 unfolding frameOf
-returns c =
-    rw (
-      given (c .before .before .before .before .before .before .before .reads-of .ensures .0),
-      given (c .before .before .before .before .before .read-sum .ensures),
-      given (c .before .before .shape-of .ensures),
-    )
+returns c = rw (given (c .before .before .before .before .before .raw-of .ensures), given (c .before .before .shape-of .ensures))
 
 pub frame-of-spec : {M : Type 1} → statement M
-frame-of-spec = tie.close (tie.spec (λ c κs. search needs) (λ c κs. search needs) (λ c κs. search needs) returns)
+frame-of-spec = tie.close (tie.spec (λ c κs. search needs) (λ c κs. search needs) returns)

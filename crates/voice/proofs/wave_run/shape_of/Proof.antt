@@ -16,7 +16,7 @@ kept c =
 
 returns : tie.Need-returns
 unfolding shapedOf
-returns c = rw (given (c .before .before .before .before .before .before .signed .ensures), given (kept (c .before .before .before .before)), given (c .before .before .before .slot-of .ensures), given (c .before .before .slot-of2 .ensures))
+returns c = rw (given (c .before .before .before .before .before .before .signed .ensures), given (kept (c .before .before .before .before)), given (c .before .before .before .slot-at .ensures), given (c .before .before .slot-at2 .ensures))
 
 pub shape-of-spec : {M : Type 1} → statement M
 shape-of-spec = tie.close (tie.spec (λ c κs. search needs) (λ c κs. search needs) (λ c κs. search needs) (λ c κs. search needs) returns)

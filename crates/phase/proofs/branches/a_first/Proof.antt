@@ -1,8 +1,8 @@
 -- `phase::a_first` meets its contract. Assumes nothing.
 use borrow.Author.Needs.{needs}
 use Rattle.phase.specs.Reads.{aFirst}
-use Rattle.phase.proofs.reads.a_first.Statement.{statement}
-use Rattle.phase.proofs.reads.a_first.Tie as tie
+use Rattle.phase.proofs.branches.a_first.Statement.{statement}
+use Rattle.phase.proofs.branches.a_first.Tie as tie
 
 pub a-first-spec : {M : Type 1} → statement M
 unfolding aFirst
