@@ -15,9 +15,9 @@ use Rattle.shaper.specs.declared.settings.Settings.{Settings}
 use Rattle.shaper.specs.declared.settings.Range.{Range}
 use Rattle.shaper.specs.declared.single.ReadsAnswer.{ReadsAnswer}
 use Rattle.shaper.specs.Refusal.{readsRefusal, sampleRefusal}
-use Rattle.shaper.specs.ReadsCall.{Lent, controlLengths, noReads, ReadsCall}
-use Rattle.shaper.specs.SampleCall.{SampleCall}
-use Rattle.shaper.specs.Taken.{readsTaken, ReadsTaken, sampleTaken, SampleTaken}
+use Rattle.shaper.specs.ReadsCall.{Lent, controlLengths, noReads, readsTaken, ReadsCall}
+use Rattle.shaper.specs.SampleCall.{sampleTaken, SampleCall}
+use Rattle.shaper.specs.Taken.{ReadsTaken, SampleTaken}
 use Rattle.shaper.proofs.RefusalLaws.{reads-accepted, sample-accepted}
 
 -- ---- a read list

@@ -52,12 +52,15 @@ laneControls s l lane = controlsOf (s .lanes) lane (s .frames) (l .base0) (l .ba
 abbrev pub noReads : LaneReads
 noReads = record { phase = replicate 4 0; gain = replicate 4 0f; count = 0 }
 
+-- at rendered frame `sub` of the block's host frame `host`
+abbrev pub readsTaken : Settings → ℕ → ℕ → ℕ → ℕ → ℕ → ℕ → Lent → List Float → List Float → List Float → List Float → Reads
+readsTaken s rate lane host sub word step l curve inner fm last =
+    readsAt s rate (laneControls s l lane) (take 1025 curve) (column nan (s .lanes) lane (spansOf (s .frames)) inner) host sub word step
+    (col nan (s .lanes) lane fm 0) (col nan (s .lanes) lane fm 1) (col nan (s .lanes) lane last 0)
+
 -- `frame` counts rendered frames from the range's start
 abbrev pub readsCalled : Settings → ℕ → ℕ → Range → ℕ → ℕ → ℕ → Lent → List Float → List Float → List Float → List Float → Reads
-readsCalled s rate lane r frame word step l curve inner fm last =
-    readsAt s rate (laneControls s l lane) (take 1025 curve) (column nan (s .lanes) lane (spansOf (s .frames)) inner)
-    (r .first + frame / s .factor) (frame % s .factor) word step
-    (col nan (s .lanes) lane fm 0) (col nan (s .lanes) lane fm 1) (col nan (s .lanes) lane last 0)
+readsCalled s rate lane r frame = readsTaken s rate lane (r .first + frame / s .factor) (frame % s .factor)
 
 -- fm and fm' are the FM carry before and after; `last` is only read
 pub record ReadsCall (s : Settings) (rate active lane : ℕ) (r : Range) (frame word step : ℕ) (l : Lent) (curve inner fm fm' last : List Float) (a : ReadsAnswer) : Type 0 where

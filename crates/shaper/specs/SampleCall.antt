@@ -18,11 +18,15 @@ use Rattle.shaper.specs.Lane.{shapedAt, pair0, pair1, putPairs}
 use Rattle.shaper.specs.Refusal.{sampleRefusal}
 use Rattle.shaper.specs.ReadsCall.{Lent, controlLengths, laneControls}
 
+-- at rendered frame `sub` of the block's host frame `host`
+abbrev pub sampleTaken : Settings → ℕ → ℕ → ℕ → ℕ → Float → Lent → List Float → List Float → Shaped
+sampleTaken s lane host sub step x l pairs last =
+    shapedAt s (laneControls s l lane) host sub step x
+    (pair0 (col nan (s .lanes) lane pairs)) (pair1 (col nan (s .lanes) lane pairs)) (col nan (s .lanes) lane last 0)
+
 -- `frame` counts rendered frames from the range's start
 abbrev pub sampleCalled : Settings → ℕ → Range → ℕ → ℕ → Float → Lent → List Float → List Float → Shaped
-sampleCalled s lane r frame step x l pairs last =
-    shapedAt s (laneControls s l lane) (r .first + frame / s .factor) (frame % s .factor) step x
-    (pair0 (col nan (s .lanes) lane pairs)) (pair1 (col nan (s .lanes) lane pairs)) (col nan (s .lanes) lane last 0)
+sampleCalled s lane r frame = sampleTaken s lane (r .first + frame / s .factor) (frame % s .factor)
 
 pub record SampleCall (s : Settings) (active lane : ℕ) (r : Range) (frame step : ℕ) (x : Float) (l : Lent) (pairs last pairs' last' : List Float) (a : Valued) : Type 0 where
   pub number : a .number ≡ sampleRefusal s active lane r frame (controlLengths l) (length pairs) (length last)

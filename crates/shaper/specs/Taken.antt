@@ -3,10 +3,9 @@
 use mathlib.Core.Path.{_≡_}
 use mathlib.Core.List.{List}
 use Prim.Native.Nat.{ℕ, _+_, _*_, _≤_, _<_}
-use lib.ListN.{take}
 use lib.Ieee.{Float, nan}
 use Rattle.grid.specs.Functions.{upd}
-use Rattle.grid.specs.Cells.{col, column, columns}
+use Rattle.grid.specs.Cells.{columns}
 use Rattle.grid.specs.Lanes.{Each}
 use Rattle.limits.specs.Lines.{spansOf}
 use Rattle.phase.specs.declared.reads.LaneReads.{LaneReads}
@@ -16,8 +15,7 @@ use Rattle.voice.specs.declared.wave_run.Shaped.{Shaped}
 use Rattle.controls.specs.Places.{Spot, Holds}
 use Rattle.shaper.specs.declared.settings.Settings.{Settings}
 use Rattle.shaper.specs.declared.refusal.ControlLengths.{ControlLengths}
-use Rattle.shaper.specs.Lane.{readsAt, shapedAt, pair0, pair1, putPairs, putCarry}
-use Rattle.shaper.specs.ReadsCall.{Lent, laneControls}
+use Rattle.shaper.specs.Lane.{putPairs, putCarry}
 
 -- ---- what is asked for
 
@@ -51,20 +49,10 @@ pub record Fed (s : Settings) (rate : ℕ) (l : ControlLengths) (lane host curve
 abbrev pub pairIn : ℕ → (ℕ → Float) → Svf
 pairIn row pairs = record { ic1 = pairs row; ic2 = pairs (row + 1) }
 
-abbrev pub readsTaken : Settings → ℕ → ℕ → ℕ → ℕ → ℕ → ℕ → Lent → List Float → List Float → List Float → List Float → Reads
-readsTaken s rate lane host sub word step l curve inner fm last =
-    readsAt s rate (laneControls s l lane) (take 1025 curve) (column nan (s .lanes) lane (spansOf (s .frames)) inner) host sub word step
-    (col nan (s .lanes) lane fm 0) (col nan (s .lanes) lane fm 1) (col nan (s .lanes) lane last 0)
-
 -- a read list, and the FM carry stored
 pub record ReadsTaken (s : Settings) (lane : ℕ) (called : Reads) (fm fm' : List Float) (reads : LaneReads) : Type 0 where
   pub list : reads ≡ called .reads
   pub carry : Each (s .lanes) lane (lane + 1) (λ _. putCarry (called .fm0) (called .fm1)) (columns nan (s .lanes) fm) (columns nan (s .lanes) fm')
-
-abbrev pub sampleTaken : Settings → ℕ → ℕ → ℕ → ℕ → Float → Lent → List Float → List Float → Shaped
-sampleTaken s lane host sub step x l pairs last =
-    shapedAt s (laneControls s l lane) host sub step x
-    (pair0 (col nan (s .lanes) lane pairs)) (pair1 (col nan (s .lanes) lane pairs)) (col nan (s .lanes) lane last 0)
 
 -- a sample, and the filter pairs and `last` stored
 pub record SampleTaken (s : Settings) (lane : ℕ) (called : Shaped) (pairs last pairs' last' : List Float) (y : Float) : Type 0 where

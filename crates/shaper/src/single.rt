@@ -15,9 +15,9 @@ use limits::Valued;
 use phase::LaneReads;
 ghost use mathlib.Core.Path.{_≡_};
 ghost use lib.ListN.{length};
-ghost use Rattle.shaper.specs.ReadsCall.{lent, controlLengths, noReads, ReadsCall};
-ghost use Rattle.shaper.specs.SampleCall.{SampleCall};
-ghost use Rattle.shaper.specs.Taken.{Held, Driven, Fed, readsTaken, ReadsTaken, sampleTaken, SampleTaken};
+ghost use Rattle.shaper.specs.ReadsCall.{lent, controlLengths, noReads, readsTaken, ReadsCall};
+ghost use Rattle.shaper.specs.SampleCall.{sampleTaken, SampleCall};
+ghost use Rattle.shaper.specs.Taken.{Held, Driven, Fed, ReadsTaken, SampleTaken};
 
 // The number of a refusal, 0 where there is none, the range's frames, and the list.
 #[repr(C)]

@@ -3,8 +3,7 @@ use mathlib.Core.Path.{_≡_}
 use borrow.Author.Needs.{needs}
 use denote.Ref.{now}
 use Rattle.grid.specs.Cells.{col}
-use Rattle.shaper.specs.ReadsCall.{lent}
-use Rattle.shaper.specs.Taken.{readsTaken}
+use Rattle.shaper.specs.ReadsCall.{lent, readsTaken}
 use Rattle.shaper.proofs.TakenLaws.{reads-taken}
 use Rattle.shaper.proofs.single.reads_taken.Statement.{statement}
 use Rattle.shaper.proofs.single.reads_taken.Tie as tie

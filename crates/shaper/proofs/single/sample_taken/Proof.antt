@@ -7,7 +7,7 @@ use denote.Ref.{now}
 use lib.ListN.{length}
 use Rattle.grid.proofs.CellLaws.{col-at}
 use Rattle.shaper.specs.ReadsCall.{lent}
-use Rattle.shaper.specs.Taken.{sampleTaken}
+use Rattle.shaper.specs.SampleCall.{sampleTaken}
 use Rattle.shaper.proofs.StoreLaws.{cell-in}
 use Rattle.shaper.proofs.TakenLaws.{sample-taken}
 use Rattle.shaper.proofs.single.sample_taken.Statement.{statement}
