@@ -24,15 +24,35 @@ static const double PI = 3.14159265358979323846;
 
 /* What lives as long as the voices: phases, and what each lane carries from one call to the next. */
 static uint32_t phase[LANES];
-static float pairs[4 * LANES], fm[2 * LANES], last[LANES], state[72 * LANES];
+static float *pairs, *fm, *last, *state;
 
 /* The tables. */
-static float curve[1025], cycle[2048];
+static float *curve, *cycle;
 
 /* A block's buffers. */
-static uint32_t words[FRAMES * FACTOR * LANES], steps[FRAMES * FACTOR * LANES];
-static float amount[FRAMES * LANES], output[FRAMES * LANES], work[FRAMES * FACTOR * LANES];
-static float inner[SPANS * LANES], stretch[SPANS * LANES], add[SPANS * LANES];
+static uint32_t *words, *steps;
+static float *amount, *output, *work, *inner, *stretch, *add;
+
+/* Zeros, on the heap: a memory checker sees a step past them there. */
+static void *cells(size_t count)
+{
+    void *zeros = calloc(count, sizeof(float));
+    if (zeros == NULL) {
+        perror("calloc");
+        exit(1);
+    }
+    return zeros;
+}
+
+/* Each as long as the header asks. */
+static void make_buffers(void)
+{
+    pairs = cells(4 * LANES), fm = cells(2 * LANES), last = cells(LANES), state = cells(72 * LANES);
+    curve = cells(1025), cycle = cells(2048);
+    words = cells(FRAMES * FACTOR * LANES), steps = cells(FRAMES * FACTOR * LANES), work = cells(FRAMES * FACTOR * LANES);
+    amount = cells(FRAMES * LANES), output = cells(FRAMES * LANES);
+    inner = cells(SPANS * LANES), stretch = cells(SPANS * LANES), add = cells(SPANS * LANES);
+}
 
 static void make_tables(void)
 {
@@ -138,6 +158,7 @@ int main(int argc, char **argv)
         perror(argv[1]);
         return 1;
     }
+    make_buffers();
     make_tables();
     write_header(file);
     int peak = 0;

@@ -2,9 +2,17 @@
  *
  * A buffer is a pointer and a count of its numbers. Buffers by frame, spans and what lanes carry hold rows of `lanes` numbers: a lane's
  * number in a row lies at row * lanes + lane. Of `lanes` lanes (1..64) the first `active` take part in a call, possibly none; no cell of
- * another lane is touched, nor any past the lengths below. An empty buffer may come as NULL with count 0. The library keeps no pointer past a call, allocates nothing and has
- * no state of its own: buffers are the caller's before, during and after a call. Two buffers of one call must not overlap where one of
- * them is written; if they do, the fault is the caller's and nothing is promised.
+ * another lane is touched, nor any past the lengths below. The library keeps no pointer past a call, allocates nothing and has no state of
+ * its own: buffers are the caller's before, during and after a call, and calls on different buffers may run at the same time.
+ *
+ * In every call, also one that is turned down, the caller sees to this; where it doesn't, nothing is promised:
+ *   - A pointer has as many numbers behind it as its count says. It is NULL only with count 0, and with count 0 it may be any.
+ *   - It is aligned as its type, float or uint32_t, and needs no more than that.
+ *   - A buffer that is written overlaps no other buffer of the call. Those that are read may.
+ *   - No one else writes a buffer of the call while it runs, or reads one that it writes.
+ *   - The thread's floating-point mode is C's default: to nearest, and subnormal numbers are kept.
+ * Beyond that arguments may be any, NaN and infinities too. A count need not be a multiple of anything: what is longer than asked for is
+ * left alone, what is shorter is refused, an empty buffer too where something is asked for, unless it may be absent.
  */
 #ifndef SHAPER_H
 #define SHAPER_H

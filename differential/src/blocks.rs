@@ -7,14 +7,13 @@ mod prepared;
 
 use crate::lending::pair;
 use crate::refusals;
-use crate::tally::{self, Tally};
+use crate::tally::{Part, Tally};
 use drawn::{Block, Tables, ranges};
-use programs::Generator;
 use programs::singles::{Buffer, Call, Kind};
 
 /// Ranges of a block on the same buffers; every fourth has its own count of active lanes.
 fn runs(count: u64, tally: &mut Tally) {
-    let mut g = Generator(0x2c1b_3c6d);
+    let mut g = tally.generator(0x2c1b_3c6d);
     let tables = Tables::new(&mut g);
     for i in 0..count {
         let block = Block::draw(pair(i), &tables, &mut g);
@@ -37,14 +36,12 @@ fn refused(count: u64, tally: &mut Tally) {
 
 /// `count` blocks in ranges, as many in cuts, and a third as many times three with their spans; every cause
 /// of a refusal, alone and with every other, and some drawn together.
-pub fn compare(count: u64) -> Tally {
-    tally::parts(
-        count,
-        &[
-            ("ranges of a block", runs),
-            ("blocks and their cuts", cuts::compare),
-            ("blocks with their spans", prepared::compare),
-            ("refusals of the block run", refused),
-        ],
-    )
-}
+pub const PARTS: &[Part] = &[
+    ("ranges of a block", runs),
+    ("blocks and their cuts", cuts::compare),
+    ("blocks with their spans", prepared::compare),
+    ("refusals of the block run", refused),
+];
+
+/// `count` blocks of the most lanes and frames.
+pub const LARGEST: &[Part] = &[("largest blocks", prepared::largest)];

@@ -3,7 +3,7 @@
 
 use crate::card::{self, Answer};
 use crate::guards::{GUARDS, differs, sets, unchanged};
-use crate::tally::{self, Tally};
+use crate::tally::{Part, Tally};
 use programs::Generator;
 use programs::decimations::{Shape, cells, designs, numbers};
 use ruled::api::halfband::{self as oracle, Design};
@@ -72,7 +72,7 @@ fn call(shape: Shape, of: &[Design; 3], buffer: &mut [f32], states: [&mut Vec<f3
 
 /// Designs, lanes and a state, over some calls.
 fn calls(count: u64, tally: &mut Tally) {
-    let mut g = Generator(0x1b87_3593);
+    let mut g = tally.generator(0x1b87_3593);
     for i in 0..count / 4 {
         let is_wild = i % 2 == 1;
         let mut numbers = shape(&mut g);
@@ -94,7 +94,7 @@ fn calls(count: u64, tally: &mut Tally) {
 
 /// The results and the state of a block, whole and in ranges.
 fn cuts(count: u64, tally: &mut Tally) {
-    let mut g = Generator(0xcc9e_2d51);
+    let mut g = tally.generator(0xcc9e_2d51);
     for i in 0..count / 8 {
         let is_wild = i % 4 == 3;
         let whole = shape(&mut g);
@@ -139,7 +139,7 @@ fn cuts(count: u64, tally: &mut Tally) {
 
 /// The most lanes and frames, with each factor; and calls that have nothing to do.
 fn limits(_: u64, tally: &mut Tally) {
-    let mut g = Generator(0x52dc_e729);
+    let mut g = tally.generator(0x52dc_e729);
     for factor in [1, 2, 4, 8] {
         let most = Shape { factor, lanes: 64, active: 64, frames: 4096 };
         let none = Shape { active: 0, frames: 100, ..most };
@@ -267,7 +267,7 @@ impl Lent {
 
 /// No cause, every cause alone, every two and every three, on calls that are right but for them.
 fn refusals(_: u64, tally: &mut Tally) {
-    let mut g = Generator(0x85eb_ca6b);
+    let mut g = tally.generator(0x85eb_ca6b);
     let lent = Lent::new(&mut g);
     let right = |factor, lanes, active, frames| Asked {
         shape: Shape { factor, lanes, active, frames },
@@ -295,7 +295,7 @@ fn refusals(_: u64, tally: &mut Tally) {
 
 /// Drawn numbers about the ends of their ranges, right or wrong.
 fn ends(count: u64, tally: &mut Tally) {
-    let mut g = Generator(0xe654_6b64);
+    let mut g = tally.generator(0xe654_6b64);
     let lent = Lent::new(&mut g);
     let mut of = |from: &[u32]| from[(g.draw() >> 8) as usize % from.len()];
     for _ in 0..count {
@@ -327,15 +327,10 @@ fn ends(count: u64, tally: &mut Tally) {
 
 /// `count` calls and as many about refusals' ends, an eighth as many blocks in ranges, and every cause
 /// of a refusal.
-pub fn compare(count: u64) -> Tally {
-    tally::parts(
-        count,
-        &[
-            ("decimated buffers", calls),
-            ("decimated in ranges", cuts),
-            ("decimation's limits", limits),
-            ("causes of a refusal", refusals),
-            ("ends of the ranges", ends),
-        ],
-    )
-}
+pub const PARTS: &[Part] = &[
+    ("decimated buffers", calls),
+    ("decimated in ranges", cuts),
+    ("decimation's limits", limits),
+    ("causes of a refusal", refusals),
+    ("ends of the ranges", ends),
+];

@@ -1,14 +1,15 @@
 //! The leaves on bit patterns spread over all of 2^32, against the oracle.
 
 use crate::probe::{self, NUMBERS};
-use crate::tally::{self, Tally};
-use programs::{Generator, lookup_table};
+use crate::tally::{Part, Tally};
+use programs::lookup_table;
 use ruled::api::lanes as oracle;
 
-/// An odd step, so that `count` patterns are spread over all of them.
-pub fn patterns(count: u64) -> impl Iterator<Item = u32> {
+/// An odd step, so that `count` patterns are spread over all of them; the first is the tally's seed.
+pub fn patterns(count: u64, tally: &Tally) -> impl Iterator<Item = u32> + use<> {
     let step = ((1u64 << 32) / count.max(1)) | 1;
-    (0..count).map(move |i| (i * step) as u32)
+    let first = u64::from(tally.seed(0));
+    (0..count).map(move |i| (first + i * step) as u32)
 }
 
 type Unary = (&'static str, fn(f32) -> f32, fn(f32) -> f32);
@@ -38,7 +39,7 @@ const POWERS: [(&str, fn(f32) -> f32); 4] = [
 
 fn unary(count: u64, tally: &mut Tally) {
     for (name, got, want) in UNARY {
-        for p in patterns(count) {
+        for p in patterns(count, tally) {
             let x = f32::from_bits(p);
             tally.same(name, p, got(x), want(x));
         }
@@ -47,7 +48,7 @@ fn unary(count: u64, tally: &mut Tally) {
 
 fn powers(count: u64, tally: &mut Tally) {
     for (leaf, (name, want)) in POWERS.into_iter().enumerate() {
-        let mut all = patterns(count);
+        let mut all = patterns(count, tally);
         loop {
             let xs: Vec<f32> = all.by_ref().take(4096).map(f32::from_bits).collect();
             if xs.is_empty() {
@@ -66,7 +67,7 @@ fn powers(count: u64, tally: &mut Tally) {
 }
 
 fn casts(count: u64, tally: &mut Tally) {
-    for p in patterns(count) {
+    for p in patterns(count, tally) {
         let x = f32::from_bits(p);
         tally.word("any", p, u64::from(probe::probe_any(x)), u64::from(oracle::any(x)));
         tally.word("to_word", p, u64::from(probe::probe_to_word(x)), u64::from(oracle::to_word(x)));
@@ -86,7 +87,7 @@ fn casts(count: u64, tally: &mut Tally) {
 /// time floats near 1 and a mask of 0 or 1.
 fn several(count: u64, tally: &mut Tally) {
     let table = lookup_table();
-    let mut g = Generator(0x2545_f491);
+    let mut g = tally.generator(0x2545_f491);
     for i in 0..count {
         let raw = [g.draw(), g.draw(), g.draw()];
         let tame = i % 2 == 0;
@@ -107,14 +108,9 @@ fn several(count: u64, tally: &mut Tally) {
 }
 
 /// About `count` patterns for each leaf.
-pub fn compare(count: u64) -> Tally {
-    tally::parts(
-        count,
-        &[
-            ("unary leaves", unary),
-            ("leaves of the table of powers", powers),
-            ("casts and words", casts),
-            ("leaves of several inputs", several),
-        ],
-    )
-}
+pub const PARTS: &[Part] = &[
+    ("unary leaves", unary),
+    ("leaves of the table of powers", powers),
+    ("casts and words", casts),
+    ("leaves of several inputs", several),
+];

@@ -7,6 +7,7 @@ mod decimate;
 mod guards;
 mod leaves;
 mod lending;
+mod long;
 mod phases;
 mod probe;
 mod refusals;
@@ -15,42 +16,78 @@ mod speed;
 mod tally;
 mod waves;
 
-use tally::Tally;
+use tally::{Part, Tally};
 
 const USAGE: &str = "usage: differential quick | speed | speed-blocks
-       differential leaves | phases | waves | decimate | singles | blocks COUNT";
+       differential long MINUTES [SEED]
+       differential leaves | phases | waves | decimate | singles | blocks | largest COUNT [SEED]";
 
-/// A comparison's name, what it runs, and the count that `quick` runs it at.
-type Comparison = (&'static str, fn(u64) -> Tally, u64);
+struct Comparison {
+    name: &'static str,
+    parts: &'static [Part],
+    /// The count that `quick` runs it at; 0 for not at all.
+    quick: u64,
+    /// The count of a round of `long`: all pairs of modes, in some ten seconds for all comparisons.
+    round: u64,
+}
 
-const COMPARISONS: [Comparison; 6] = [
-    ("leaves", leaves::compare, 200_000),
-    ("phases", phases::compare, 400_000),
-    ("waves", waves::compare, 150_000),
-    ("decimate", decimate::compare, 2_000),
-    ("singles", singles::compare, 4_900),
-    ("blocks", blocks::compare, 490),
+/// Spans are in singles, blocks and largest; read lists in phases and singles; samples in waves and singles;
+/// state in waves, decimate, singles, blocks and largest; decimated buffers in decimate; whole blocks in
+/// blocks and largest; refusals in decimate, singles and blocks; cuts, demand 3 by brute force, in blocks.
+const COMPARISONS: [Comparison; 7] = [
+    Comparison { name: "leaves", parts: leaves::PARTS, quick: 200_000, round: 1_000_000 },
+    Comparison { name: "phases", parts: phases::PARTS, quick: 400_000, round: 1_600_000 },
+    Comparison { name: "waves", parts: waves::PARTS, quick: 150_000, round: 300_000 },
+    Comparison { name: "decimate", parts: decimate::PARTS, quick: 2_000, round: 16_000 },
+    Comparison { name: "singles", parts: singles::PARTS, quick: 4_900, round: 9_800 },
+    Comparison { name: "blocks", parts: blocks::PARTS, quick: 490, round: 4_900 },
+    Comparison { name: "largest", parts: blocks::LARGEST, quick: 0, round: 4 },
 ];
 
+impl Comparison {
+    /// Runs its parts, one at each step.
+    fn run(&self, count: u64, seed: u32) -> impl Iterator<Item = (&'static str, Tally)> {
+        self.parts.iter().map(move |(name, part)| {
+            let mut tally = Tally::new(seed);
+            part(count, &mut tally);
+            (*name, tally)
+        })
+    }
+
+    /// Runs it and prints each part's line.
+    fn print(&self, count: u64, seed: u32) -> Tally {
+        let mut all = Tally::default();
+        for (name, tally) in self.run(count, seed) {
+            println!("{name}: {tally}");
+            all.add(&tally);
+        }
+        all
+    }
+}
+
 fn finish(tally: &Tally) {
-    println!("{} of {}", tally.passed, tally.total);
-    if tally.passed != tally.total || tally.total == 0 {
+    println!("{tally}");
+    if !tally.is_right() || tally.total == 0 {
         std::process::exit(1);
     }
 }
 
 fn quick() -> Tally {
     let mut all = Tally::default();
-    for (_, compare, count) in COMPARISONS {
-        all.add(&compare(count));
+    for comparison in COMPARISONS.into_iter().filter(|comparison| comparison.quick > 0) {
+        all.add(&comparison.print(comparison.quick, 0));
     }
     all
 }
 
-/// The comparison of this name at this count.
-fn one(name: &str, count: &str) -> Option<Tally> {
-    let (_, compare, _) = COMPARISONS.into_iter().find(|comparison| comparison.0 == name)?;
-    Some(compare(count.parse().ok()?))
+/// The comparison of this name at this count, or all of them for as many minutes.
+fn one(name: &str, count: &str, seed: Option<u32>) -> Option<Tally> {
+    let count = count.parse().ok()?;
+    if name == "long" {
+        return Some(long::run(count, seed.unwrap_or_else(long::seed)));
+    }
+    let comparison = COMPARISONS.into_iter().find(|comparison| comparison.name == name)?;
+    Some(comparison.print(count, seed.unwrap_or(0)))
 }
 
 fn main() {
@@ -60,7 +97,8 @@ fn main() {
         ["quick"] => Some(quick()),
         ["speed"] => return speed::table(),
         ["speed-blocks"] => return speed::blocks::table(),
-        [name, count] => one(name, count),
+        [name, count] => one(name, count, None),
+        [name, count, seed] => seed.parse().ok().and_then(|seed| one(name, count, Some(seed))),
         _ => None,
     };
     match compared {

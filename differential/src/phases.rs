@@ -1,7 +1,7 @@
 //! The phase side against the oracle: mode facts, the curve, stretch, and read lists of two slots.
 
 use crate::probe::{self, LaneReads, Slots};
-use crate::tally::{self, Tally};
+use crate::tally::{Part, Tally};
 use programs::phases::{Case, REFUSED, slope_table};
 use programs::{Generator, pattern, tame};
 use ruled::api::{self, curve as curves, lanes, phase as oracle};
@@ -84,7 +84,7 @@ const FACTS: [Fact; 6] = [
 ];
 
 fn facts(count: u64, tally: &mut Tally) {
-    let mut g = Generator(0x2545_f491);
+    let mut g = tally.generator(0x2545_f491);
     let random: Vec<u32> = (0..count / 64).map(|_| g.draw()).collect();
     for (name, got, want) in FACTS {
         for mode in (0..=75).chain([0x8000_0000, u32::MAX]).chain(random.iter().copied()) {
@@ -107,7 +107,7 @@ fn at_minus_zero(tally: &mut Tally) {
 }
 
 fn curve(count: u64, tally: &mut Tally) {
-    let mut g = Generator(0x9e37_79b9);
+    let mut g = tally.generator(0x9e37_79b9);
     at_minus_zero(tally);
     for _ in 0..(count / 4096).max(1) {
         let seed = g.draw();
@@ -144,7 +144,7 @@ fn curve(count: u64, tally: &mut Tally) {
 }
 
 fn stretch(count: u64, tally: &mut Tally) {
-    let mut g = Generator(0x85eb_ca6b);
+    let mut g = tally.generator(0x85eb_ca6b);
     let mut check = |mode: u32, amount: f32, steepest: f32| {
         let got = probe::probe_stretch(mode, amount, steepest);
         let (number, want) = if mode < 70 { (0, oracle::stretch(mode, amount, steepest)) } else { (1, 0.0) };
@@ -212,8 +212,8 @@ fn pair(i: u64) -> [u32; 2] {
 
 /// Every other two cases are wild; the tables change after all pairs.
 fn apply(count: u64, tally: &mut Tally) {
-    let tables = tables(0x5eed);
-    let mut g = Generator(0xc2b2_ae35);
+    let tables = tables(tally.seed(0x5eed));
+    let mut g = tally.generator(0xc2b2_ae35);
     for i in 0..count {
         let modes = pair(i);
         let kind = (i / (4 * 4900)) as usize % tables.len();
@@ -237,8 +237,8 @@ const LENGTHS: [(usize, usize); 6] = [(64, 64), (64, 40), (40, 64), (1, 1), (0, 
 
 /// Sums of reads, of cycles from 0 to 1 and of any floats.
 fn sums(count: u64, tally: &mut Tally) {
-    let tables = tables(0xcafe);
-    let mut g = Generator(0x27d4_eb2f);
+    let tables = tables(tally.seed(0xcafe));
+    let mut g = tally.generator(0x27d4_eb2f);
     let mut cycles: Vec<Vec<f32>> = vec![Vec::new(); 2];
     for _ in 0..2049 {
         cycles[0].push((g.draw() >> 8) as f32 / 8_388_608.0 - 1.0);
@@ -277,15 +277,10 @@ fn sums(count: u64, tally: &mut Tally) {
 }
 
 /// About `count` read lists and as many of each other part as its inputs ask for.
-pub fn compare(count: u64) -> Tally {
-    tally::parts(
-        count,
-        &[
-            ("mode facts", facts),
-            ("curve", curve),
-            ("stretch", stretch),
-            ("read lists of two slots", apply),
-            ("sums of reads", sums),
-        ],
-    )
-}
+pub const PARTS: &[Part] = &[
+    ("mode facts", facts),
+    ("curve", curve),
+    ("stretch", stretch),
+    ("read lists of two slots", apply),
+    ("sums of reads", sums),
+];

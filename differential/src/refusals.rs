@@ -275,7 +275,7 @@ pub fn some<'a>(causes: &'a [Cause], g: &mut Generator) -> Vec<&'a Cause> {
 /// For each kind no cause, every cause alone and every two; and some drawn ones together. The read
 /// buffers are as they were after all of it.
 pub fn compare(kinds: &[Kind], count: u64, tally: &mut Tally) {
-    let mut g = Generator(0x1656_67b1);
+    let mut g = tally.generator(0x1656_67b1);
     for &kind in kinds {
         let causes = causes(kind);
         let arguments: Vec<Argument> = causes.iter().map(|cause| cause.argument).collect();

@@ -4,7 +4,7 @@
 use crate::leaves::patterns;
 use crate::lending::{Floats, Lending, pair};
 use crate::phases::tables;
-use crate::tally::{self, Tally};
+use crate::tally::{Part, Tally};
 use crate::{probe, refusals};
 use programs::singles::{Buffer, Call, Draws, Kind, Most};
 use programs::{Generator, waves};
@@ -30,8 +30,8 @@ const CALLS: u32 = 6;
 
 /// Three frames in a row of a lane and of the one after it, in turn; the words go on by the step, or
 /// are drawn.
-fn in_a_row(kind: Kind, seed: u32, count: u64, tally: &mut Tally) {
-    let mut g = Generator(seed);
+fn in_a_row(kind: Kind, part: u32, count: u64, tally: &mut Tally) {
+    let mut g = tally.generator(part);
     let curves = tables(g.draw());
     for i in 0..count {
         let (floats, most) = (Floats::draw(&mut g), most(&mut g));
@@ -69,7 +69,7 @@ fn samples(count: u64, tally: &mut Tally) {
 const BLOCKS: [u32; 13] = [0, 1, 2, 31, 32, 33, 63, 64, 65, 95, 96, 97, 300];
 
 fn spans(count: u64, tally: &mut Tally) {
-    let mut g = Generator(0xc2b2_ae35);
+    let mut g = tally.generator(0xc2b2_ae35);
     let curves = tables(g.draw());
     for i in 0..count {
         let (floats, most) = (Floats::draw(&mut g), most(&mut g));
@@ -88,7 +88,7 @@ fn spans(count: u64, tally: &mut Tally) {
 
 /// Some ranges of a block and some frames of each: none, one, all, those to a sub-block's end, or some.
 fn stretches(count: u64, tally: &mut Tally) {
-    let mut g = Generator(0x27d4_eb2f);
+    let mut g = tally.generator(0x27d4_eb2f);
     for _ in 0..count / 4 {
         let (floats, most) = (Floats::draw(&mut g), Most { frames: 400, ..most(&mut g) });
         let mut drawn = Draws::new(&mut g);
@@ -108,7 +108,7 @@ fn refused(count: u64, tally: &mut Tally) {
 }
 
 fn fm_exponential(count: u64, tally: &mut Tally) {
-    for p in patterns(16 * count) {
+    for p in patterns(16 * count, tally) {
         let s = f32::from_bits(p);
         tally.same("fm_exponential", p, probe::probe_fm_exponential(s), api::fm_exponential(s));
     }
@@ -116,16 +116,11 @@ fn fm_exponential(count: u64, tally: &mut Tally) {
 
 /// `count` settings of six calls each for read lists and for samples, as many blocks' spans, a quarter as
 /// many for stretches; every cause of a refusal, alone and with every other, and some drawn together.
-pub fn compare(count: u64) -> Tally {
-    tally::parts(
-        count,
-        &[
-            ("read lists of a lane", reads),
-            ("shaped samples of a lane", samples),
-            ("spans", spans),
-            ("stretches", stretches),
-            ("fm_exponential", fm_exponential),
-            ("refusals of the single calls", refused),
-        ],
-    )
-}
+pub const PARTS: &[Part] = &[
+    ("read lists of a lane", reads),
+    ("shaped samples of a lane", samples),
+    ("spans", spans),
+    ("stretches", stretches),
+    ("fm_exponential", fm_exponential),
+    ("refusals of the single calls", refused),
+];

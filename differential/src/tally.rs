@@ -1,15 +1,39 @@
 //! What passed, and the first case that did not.
 
-use std::fmt::Debug;
+use programs::Generator;
+use std::fmt::{Debug, Display, Formatter};
 
 #[derive(Default)]
 pub struct Tally {
     pub passed: u64,
     pub total: u64,
     shown: u32,
+    seed: u32,
 }
 
 impl Tally {
+    /// None yet, of cases that are drawn from this seed. Seed 0 draws those whose results are recorded.
+    pub fn new(seed: u32) -> Self {
+        Self { seed, ..Self::default() }
+    }
+
+    /// A part's own seed: the part's number where the tally's seed is 0. Neighbouring seeds are mixed apart.
+    pub fn seed(&self, part: u32) -> u32 {
+        let mut mixed = self.seed;
+        for by in [0x85eb_ca6b, 0xc2b2_ae35] {
+            mixed = (mixed ^ mixed >> 16).wrapping_mul(by);
+        }
+        mixed ^ mixed >> 16 ^ part
+    }
+
+    pub fn generator(&self, part: u32) -> Generator {
+        Generator(self.seed(part).max(1))
+    }
+
+    pub fn is_right(&self) -> bool {
+        self.passed == self.total
+    }
+
     /// Counts a case; prints the first few that fail.
     pub fn case(&mut self, right: bool, what: impl FnOnce() -> String) {
         self.total += 1;
@@ -45,17 +69,11 @@ impl Tally {
     }
 }
 
+impl Display for Tally {
+    fn fmt(&self, out: &mut Formatter<'_>) -> std::fmt::Result {
+        write!(out, "{} of {}", self.passed, self.total)
+    }
+}
+
 /// A part of a comparison: its name and what it runs.
 pub type Part = (&'static str, fn(u64, &mut Tally));
-
-/// Runs each part at `count`, prints its line, and adds up.
-pub fn parts(count: u64, parts: &[Part]) -> Tally {
-    let mut all = Tally::default();
-    for (name, part) in parts {
-        let mut tally = Tally::default();
-        part(count, &mut tally);
-        println!("{name}: {} of {}", tally.passed, tally.total);
-        all.add(&tally);
-    }
-    all
-}

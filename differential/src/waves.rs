@@ -3,7 +3,7 @@
 
 use crate::phases::{GUARD, float};
 use crate::probe::{self, Filtered, NUMBERS, Svf, WaveSlot};
-use crate::tally::{self, Tally};
+use crate::tally::{Part, Tally};
 use programs::waves::Case;
 use programs::{Generator, pattern};
 use ruled::api::wave::{self as oracle, Pair};
@@ -100,7 +100,7 @@ fn same(tally: &mut Tally, got: Filtered, (y, state): (f32, Pair), what: impl Fn
 }
 
 fn leaves(count: u64, tally: &mut Tally) {
-    let mut g = Generator(0x2545_f491);
+    let mut g = tally.generator(0x2545_f491);
     let mut check = |mode: u32, a: f32, x: f32| {
         let at = (mode, a.to_bits(), x.to_bits());
         tally.same("curve", at, probe::probe_wave_curve(NUMBERS, mode, x), oracle::curve(mode, x));
@@ -122,7 +122,7 @@ fn leaves(count: u64, tally: &mut Tally) {
 }
 
 fn filter(count: u64, tally: &mut Tally) {
-    let mut g = Generator(0x9e37_79b9);
+    let mut g = tally.generator(0x9e37_79b9);
     for i in 0..count {
         let mode = if i % 8 == 7 { g.draw() % 70 } else { 17 + (i % 2) as u32 };
         let (harmonic, increment) = if i / 2 % 2 == 0 {
@@ -166,7 +166,7 @@ fn beside(g: &mut Generator, driven: f32) -> f32 {
 /// Distortions by the antiderivative method: inputs just apart, just together and equal, the edges by
 /// the edges, and any.
 fn distort_smooth(count: u64, tally: &mut Tally) {
-    let mut g = Generator(0x85eb_ca6b);
+    let mut g = tally.generator(0x85eb_ca6b);
     for i in 0..count {
         let m = mode(&mut g);
         let a = if i % 2 == 0 { unit(&mut g) } else { amount(&mut g) };
@@ -207,7 +207,7 @@ fn slot_of(mode: u32, case: &Case) -> WaveSlot {
 /// Sequences through one slot of every mode, against the oracle's run, every sample with a case of its
 /// own. A mode whose source is the oscillator itself reads the sample.
 fn slots(count: u64, tally: &mut Tally) {
-    let mut g = Generator(0xc2b2_ae35);
+    let mut g = tally.generator(0xc2b2_ae35);
     for i in 0..count / LENGTH {
         let m = match i % 4 {
             0 => (i / 4 % 70) as u32,
@@ -250,7 +250,7 @@ const LENGTHS: [[usize; 3]; 8] = [
 
 /// Runs of one slot over a sequence of samples.
 fn runs(count: u64, tally: &mut Tally) {
-    let mut g = Generator(0x27d4_eb2f);
+    let mut g = tally.generator(0x27d4_eb2f);
     for i in 0..count / LENGTH {
         let m = match i % 4 {
             0 => [58, 64, 5, 0][(i / 4 % 4) as usize],
@@ -293,15 +293,10 @@ fn runs(count: u64, tally: &mut Tally) {
 }
 
 /// About `count` cases of each part.
-pub fn compare(count: u64) -> Tally {
-    tally::parts(
-        count,
-        &[
-            ("curves, integrals, drives", leaves),
-            ("filters", filter),
-            ("distortions", distort_smooth),
-            ("slots", slots),
-            ("runs of a slot", runs),
-        ],
-    )
-}
+pub const PARTS: &[Part] = &[
+    ("curves, integrals, drives", leaves),
+    ("filters", filter),
+    ("distortions", distort_smooth),
+    ("slots", slots),
+    ("runs of a slot", runs),
+];

@@ -1,14 +1,37 @@
--- The pattern of a root: put together from the nearest whole number, read back, and taken down by 2 ^ 12. Assumes nothing.
+-- The nearest whole number by squares, and the pattern of a root: put together from the nearest whole number, read back, and taken down by 2 ^ 12. Assumes nothing.
 use mathlib.Core.Path.{_≡_, sym, ap, _∙_, subst}
 use Prim.Native.Nat.{ℕ, zero, suc, _+_, _-_, _*_, _/_, _%_, _^_, _≤_, _<_}
-use native.Mathlib.Nat.{le-trans, le-of-eq, mul-assoc}
+use native.Mathlib.Nat.{le-trans, le-of-eq, lt-of-le-of-lt, lt-of-not-le, mul-assoc, mul-le-mul, mul-le-mul-right}
 use native.Mathlib.Omega.{arith}
 use lib.Pow.{pow-add}
+use lib.Dec.{lit<}
 use lib.Ieee.{binary32, ofBits}
 use Rattle.floats.specs.Promises.{NearestRoot, RootPattern}
 use Rattle.floats.specs.Sqrt.{rootUnits, BySquares}
 use Rattle.floats.proofs.Patterns.{made}
 use Rattle.floats.proofs.RootOnly.{root-only, of-nearest}
+
+pub square-fits : (r : ℕ) → r < 2 ^ 32 → r * r < 2 ^ 64
+square-fits r h = lt-of-le-of-lt (mul-le-mul (most r h) (most r h)) (lit< tt)
+  where
+    most : (r : ℕ) → r < 2 ^ 32 → r ≤ 2 ^ 32 - 1
+    most r h = omega arith
+
+-- of an n whose root has 24 digits
+pub root-under : (n r : ℕ) → n ≤ 2 ^ 48 - 2 ^ 24 → r * r < n + r → r < 2 ^ 24
+root-under n r N h = lt-of-not-le (λ (g : 2 ^ 24 ≤ r). no g (mul-le-mul-right r g))
+  where
+    no : 2 ^ 24 ≤ r → 2 ^ 24 * r ≤ r * r → ⊥
+    no g l = omega arith
+
+root-least : (n r : ℕ) → 2 ^ 46 ≤ n → n ≤ r * r + r → 2 ^ 23 ≤ r
+root-least n r N h = lt-of-not-le (λ (g : r ≤ 2 ^ 23 - 1). no g (mul-le-mul-right r g))
+  where
+    no : r ≤ 2 ^ 23 - 1 → r * r ≤ (2 ^ 23 - 1) * r → ⊥
+    no g l = omega arith
+
+pub nearest-root : (n r : ℕ) → 2 ^ 46 ≤ n → n ≤ 2 ^ 48 - 2 ^ 24 → r * r < n + r → n ≤ r * r + r → NearestRoot n r
+nearest-root n r N M above under = record { low = root-least n r N under; high = root-under n r M above; above = above; under = under }
 
 -- 24 digits moved up by 23 or 24 places
 pub raised : (m p : ℕ) → p < 2 → 2 ^ 23 ≤ m → m < 2 ^ 24 → (2 ^ 46 ≤ m * 2 ^ (23 + p)) × (m * 2 ^ (23 + p) ≤ 2 ^ 48 - 2 ^ 24)

@@ -5,38 +5,104 @@ ghost use lib.Ieee.{binary32, ofBits};
 ghost use Rattle.floats.specs.Sqrt.{sqrtOf, rootUnits};
 ghost use Rattle.floats.specs.Promises.{NearestRoot, RootPattern};
 
-// 1 where the exponent is even, the root of 2 where it is odd.
-fn turn(u: u32) -> f64 {
-    if u < 8388608 { 1.0 } else { 1.4142135623730951 }
+// The factors f × (f + a) + b and k × f × f + c × f + d, whose product is near the root of f.
+struct Factors {
+    a: f64,
+    b: f64,
+    k: f64,
+    c: f64,
+    d: f64,
 }
 
-// A whole number near 2^23 times the root of t, where t, from 1 to 4, is 2^(u / 2^23) times the
-// number f with the fraction u % 2^23. What is worked out from the guess is right for any; a good
-// one makes it quick. The cubic is within 1 in 10,000 of the root of f, and a step of Newton's
-// method brings that to less than 1 in 2^27. A float plus 2^52 has its nearest whole number in its
-// last digits.
-fn guess(u: u32) -> u64
-    requires { ⌜ u < 2 ^ 24 ⌝ }
-    ensures { λ r. ⌜ (2 ^ 23 ≤ r) × (r < 2 ^ 24) ⌝ }
+// For each eighth of 1 to 2. The product is within 1 in 2^29 of the root.
+fn factors_of(eighth: u32) -> Factors {
+    match eighth {
+        0 => Factors {
+            a: -1.9770130511,
+            b: 8.9363207621,
+            k: -0.031666202797,
+            c: 0.12578902088,
+            d: 0.031516249737,
+        },
+        1 => Factors {
+            a: -2.2094827741,
+            b: 11.165602973,
+            k: -0.021445320429,
+            c: 0.095215961816,
+            d: 0.026670379566,
+        },
+        2 => Factors {
+            a: -2.4419633229,
+            b: 13.642582937,
+            k: -0.015102859045,
+            c: 0.074117515985,
+            d: 0.022950675603,
+        },
+        3 => Factors {
+            a: -2.6744518674,
+            b: 16.367260717,
+            k: -0.010981751889,
+            c: 0.059027711308,
+            d: 0.020021944516,
+        },
+        4 => Factors {
+            a: -2.9069464852,
+            b: 19.339636354,
+            k: -0.0082006103953,
+            c: 0.047913016319,
+            d: 0.017667197604,
+        },
+        5 => Factors {
+            a: -3.1394458246,
+            b: 22.559709873,
+            k: -0.0062632236553,
+            c: 0.039521874211,
+            d: 0.015740410458,
+        },
+        6 => Factors {
+            a: -3.3719489075,
+            b: 26.02748129,
+            k: -0.0048766995019,
+            c: 0.033052678616,
+            d: 0.014140081518,
+        },
+        _ => Factors {
+            a: -3.6044550086,
+            b: 29.742950618,
+            k: -0.0038610970102,
+            c: 0.027974389499,
+            d: 0.012793694457,
+        },
+    }
+}
+
+// 2^23, or 2^23 times the root of 2 where the exponent is odd.
+fn turn(odd: u32) -> f64 {
+    if odd == 1 { 11863283.203031 } else { 8388608.0 }
+}
+
+// A whole number near 2^23 times the root of the number f, from 1 to 2, with this fraction, or of
+// 2 × f. What is worked out from the guess is right for any; a good one makes it quick. No division
+// and few steps that wait for each other: callers wait for the root. A float plus 2^52 has its
+// nearest whole number in its last digits.
+fn guess(fraction: u32, odd: u32) -> u64
+    requires { ⌜ fraction < 2 ^ 23 ⌝ }
+    ensures { λ r. ⌜ r < 2 ^ 32 ⌝ }
 {
-    let t = f64::from_bits((u as u64) * 0x2000_0000 + 0x3ff0_0000_0000_0000);
-    let f = f64::from_bits(((u % 8388608) as u64) * 0x2000_0000 + 0x3ff0_0000_0000_0000);
-    let root = 0.37331277 + 0.78079963 * f + f * f * (0.023850528 * f - 0.17785976);
-    let y = root * turn(u);
-    let s = (y + t / y) * 4194304.0 + 4503599627370496.0;
+    let f = f64::from_bits((fraction as u64) * 0x2000_0000 + 0x3ff0_0000_0000_0000);
+    let by = factors_of(fraction / 0x10_0000);
+    let unit = turn(odd);
+    let s = (unit * f * (f + by.a) + unit * by.b) * (by.k * (f * f) + (by.c * f + by.d))
+        + 4503599627370496.0;
     if s != s {
-        return 8388608;
+        return 0;
     }
-    let q = f64::to_bits(s) % 33554432;
-    if q < 8388608 {
-        return 8388608;
-    }
-    if q > 16777215 { 16777215 } else { q }
+    f64::to_bits(s) % 0x1_0000_0000
 }
 
 // The whole number nearest the root of n, from any guess.
-fn nearest_root(n: u64, near: u64) -> u64
-    requires { ⌜ (2 ^ 46 ≤ n) × (n ≤ 2 ^ 48 - 2 ^ 24) ⌝ ∗ ⌜ (2 ^ 23 ≤ near) × (near < 2 ^ 24) ⌝ }
+fn search(n: u64, near: u64) -> u64
+    requires { ⌜ (2 ^ 46 ≤ n) × (n ≤ 2 ^ 48 - 2 ^ 24) ⌝ ∗ ⌜ near < 2 ^ 32 ⌝ }
     ensures { λ r. ⌜ NearestRoot n r ⌝ }
 {
     let mut r = near;
@@ -49,6 +115,19 @@ fn nearest_root(n: u64, near: u64) -> u64
     r
 }
 
+// The same. Almost every guess is the number, and then the result waits for no test.
+fn nearest_root(n: u64, near: u64) -> u64
+    requires { ⌜ (2 ^ 46 ≤ n) × (n ≤ 2 ^ 48 - 2 ^ 24) ⌝ ∗ ⌜ near < 2 ^ 32 ⌝ }
+    ensures { λ r. ⌜ NearestRoot n r ⌝ }
+{
+    if near * near < n + near {
+        if n <= near * near + near {
+            return near;
+        }
+    }
+    search(n, near)
+}
+
 // The pattern of the root of m × 2^j smallest values, where m has 24 digits. Moved up by 23 or 24
 // places, so that the power of two left over is even, m has a root of 24 digits.
 fn root_bits(m: u32, j: u32) -> u32
@@ -56,7 +135,7 @@ fn root_bits(m: u32, j: u32) -> u32
     ensures { λ r. ⌜ RootPattern (m * 2 ^ j) r ⌝ }
 {
     let odd = j % 2;
-    let near = guess(m - 8388608 + odd * 8388608);
+    let near = guess(m - 8388608, odd);
     let q = nearest_root((m as u64) << (23 + odd), near);
     (j + 126) / 2 * 8388608 + (q as u32)
 }
@@ -71,7 +150,7 @@ fn small_root_bits(b: u32) -> u32
     root_bits(b << up, 24 - up) - 100663296
 }
 
-// The f32 nearest the root of x, ties to even.
+// The f32 nearest the root of x, ties to even. The zeros and +infinity are their own roots.
 pub fn sqrt(x: f32) -> f32
     ensures { λ r. ⌜ r ≡ sqrtOf x ⌝ }
 {
@@ -79,20 +158,17 @@ pub fn sqrt(x: f32) -> f32
         return x;
     }
     let b = f32::to_bits(x);
-    if b == 0 {
-        return x;
-    }
-    if b == 2147483648 {
+    if b < 2139095040 {
+        if b >= 8388608 {
+            return f32::from_bits(root_bits(8388608 + b % 8388608, b / 8388608 - 1));
+        }
+        if b > 0 {
+            return f32::from_bits(small_root_bits(b));
+        }
         return x;
     }
     if b > 2147483648 {
         return 0.0 / 0.0;
     }
-    if b >= 2139095040 {
-        return x;
-    }
-    if b < 8388608 {
-        return f32::from_bits(small_root_bits(b));
-    }
-    f32::from_bits(root_bits(8388608 + b % 8388608, b / 8388608 - 1))
+    x
 }

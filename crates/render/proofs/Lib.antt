@@ -4,3 +4,4 @@ pub mod VoiceLaws
 pub mod RawLaws
 pub mod FrameLaws
 pub mod ShareLaws
+pub mod PlainLaws

@@ -2,3 +2,4 @@ pub mod Lane
 pub mod Share
 pub mod Promises
 pub mod Frames
+pub mod Plain

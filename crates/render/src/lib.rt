@@ -2,6 +2,7 @@
 pub mod cells;
 pub mod frames;
 pub mod lane;
+pub mod plain;
 
 pub use cells::BlockSettings;
 pub use cells::HostFrame;

@@ -149,7 +149,7 @@ impl Lane<'_> {
 
 /// As many blocks, each in one call and in a list of them.
 pub fn compare(count: u64, tally: &mut Tally) {
-    let mut g = Generator(0x7feb_352d);
+    let mut g = tally.generator(0x7feb_352d);
     let tables = Tables::new(&mut g);
     let causes = causes(Kind::Run);
     for i in 0..count {

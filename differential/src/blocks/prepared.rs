@@ -59,19 +59,36 @@ impl Sides {
     }
 }
 
+/// One after another with the same numbers.
+fn in_a_row(blocks: u32, block: &Block<'_>, g: &mut Generator, tally: &mut Tally) {
+    let mut sides = Sides::new(block, g);
+    for _ in 0..blocks {
+        sides.draw(block, g);
+        sides.call(Kind::Prepare, &block.call, tally);
+        for [first, count] in ranges(block.call.frames, g) {
+            sides.call(Kind::Run, &Call { first, count, ..block.call }, tally);
+        }
+    }
+}
+
 /// A third as many runs of blocks.
 pub fn compare(count: u64, tally: &mut Tally) {
-    let mut g = Generator(0x165e_c2b2);
+    let mut g = tally.generator(0x165e_c2b2);
     let tables = Tables::new(&mut g);
     for i in 0..count / 3 {
         let block = Block::draw(pair(i), &tables, &mut g);
-        let mut sides = Sides::new(&block, &mut g);
-        for _ in 0..BLOCKS {
-            sides.draw(&block, &mut g);
-            sides.call(Kind::Prepare, &block.call, tally);
-            for [first, count] in ranges(block.call.frames, &mut g) {
-                sides.call(Kind::Run, &Call { first, count, ..block.call }, tally);
-            }
-        }
+        in_a_row(BLOCKS, &block, &mut g, tally);
+    }
+}
+
+/// As many blocks of the most lanes and frames, of drawn modes.
+pub fn largest(count: u64, tally: &mut Tally) {
+    let mut g = tally.generator(0x2127_599b);
+    let tables = Tables::new(&mut g);
+    for _ in 0..count {
+        let modes = pair(u64::from(g.draw()));
+        let mut block = Block::draw(modes, &tables, &mut g);
+        block.call = Call { lanes: 64, active: 64, frames: 4096, count: 4096, ..block.call };
+        in_a_row(1, &block, &mut g, tally);
     }
 }

@@ -1,5 +1,5 @@
--- `floats::guess` meets its contract, whatever the arithmetic gives: a NaN and a number out of range are replaced. Assumes nothing.
-use Prim.Native.Nat.{_+_, _*_, _%_}
+-- `floats::guess` meets its contract, whatever the arithmetic gives: a NaN is replaced. Assumes nothing.
+use Prim.Native.Nat.{_+_, _*_}
 use native.Mathlib.Omega.{arith}
 use borrow.Author.Needs.{needs}
 use Rattle.floats.proofs.Nan.{no-nan-T}
@@ -7,14 +7,11 @@ use Rattle.floats.proofs.Patterns.{wide-no-nan}
 use Rattle.floats.proofs.root.guess.Statement.{statement}
 use Rattle.floats.proofs.root.guess.Tie as tie
 
-float-from-bits-t : tie.Need-float-from-bits-t
-float-from-bits-t c = rw (wide-no-nan (c .args .u * 536870912 + 4607182418800017408) (omega arith)) tt
-
 float-from-bits-f : tie.Need-float-from-bits-f
-float-from-bits-f c = rw (wide-no-nan (c .args .u % 8388608 * 536870912 + 4607182418800017408) (omega arith)) tt
+float-from-bits-f c = rw (wide-no-nan (c .args .fraction * 536870912 + 4607182418800017408) (omega arith)) tt
 
-float-to-bits-q : tie.Need-float-to-bits-q
-float-to-bits-q c = no-nan-T _ (c .if1 .left)
+float-to-bits-result : tie.Need-float-to-bits-result
+float-to-bits-result c = no-nan-T _ (c .if1 .left)
 
 pub guess-spec : {M : Type 1} → statement M
 guess-spec =
@@ -22,14 +19,9 @@ guess-spec =
     (tie.spec
     (λ c. search needs)
     (λ c. search needs)
-    float-from-bits-t
-    (λ c. search needs)
-    (λ c. search needs)
-    (λ c. search needs)
     float-from-bits-f
     (λ c κs. search needs)
+    (λ c κs. search needs)
     (λ c. search needs)
-    float-to-bits-q
-    (λ c. search needs)
-    (λ c. search needs)
+    float-to-bits-result
     (λ c. search needs))

@@ -1,79 +1,17 @@
--- `floats::nearest_root` meets its contract. Both loops keep r at 24 digits: the first goes down only from above 2 ^ 23, since n is 2 ^ 46 at least,
--- and the second up only from below 2 ^ 24 - 1, since n is (2 ^ 24 - 1) * 2 ^ 24 at most. The measures are r and what is left up to 2 ^ 24. Assumes nothing.
-use Prim.Native.Nat.{ℕ, _+_, _-_, _*_, _^_, _≤_, _<_}
-use native.Mathlib.Nat.{mul-le-mul, lt-of-not-le}
+-- `floats::nearest_root` meets its contract: a guess that the squares allow is the number. Assumes nothing.
 use native.Mathlib.Omega.{arith}
+use borrow.Author.Needs.{needs}
+use Rattle.floats.proofs.RootPatterns.{square-fits, nearest-root}
 use Rattle.floats.proofs.root.nearest_root.Statement.{statement}
 use Rattle.floats.proofs.root.nearest_root.Tie as tie
 
-abbrev Inv-loop : tie.InvT-loop
-Inv-loop n near r₀ r = (2 ^ 23 ≤ r) × (r < 2 ^ 24)
+mul-if1 : tie.Need-mul-if1
+mul-if1 c = omega (arith, square-fits (c .args .near) (c .pre .1))
 
-abbrev μ-loop : tie.MeasureT-loop
-μ-loop n near r₀ r = r
-
-abbrev Inv-loop2 : tie.InvT-loop2
-Inv-loop2 n near r₀ r = (2 ^ 23 ≤ r) × (r < 2 ^ 24) × (r * r < n + r)
-
-abbrev μ-loop2 : tie.MeasureT-loop2
-μ-loop2 n near r₀ r = 2 ^ 24 - r
-
-square : (r : ℕ) → r ≤ 2 ^ 24 → r * r ≤ 2 ^ 48
-square r h = mul-le-mul h h
-
--- where the loops go on
-over : (n r : ℕ) → 2 ^ 46 ≤ n → 2 ^ 23 ≤ r → n + r ≤ r * r → 2 ^ 23 < r
-over n r N R h = lt-of-not-le (λ (g : r ≤ 2 ^ 23). no (mul-le-mul g g))
-  where
-    no : r * r ≤ 2 ^ 46 → ⊥
-    no l = omega arith
-
-under : (n r : ℕ) → n ≤ 2 ^ 48 - 2 ^ 24 → r * r + r < n → r < 2 ^ 24 - 1
-under n r N h = lt-of-not-le (λ (g : 2 ^ 24 - 1 ≤ r). no g (mul-le-mul g g))
-  where
-    no : 2 ^ 24 - 1 ≤ r → (2 ^ 24 - 1) * (2 ^ 24 - 1) ≤ r * r → ⊥
-    no g l = omega arith
-
-loop-holds : tie.Need-loop-holds Inv-loop μ-loop Inv-loop2 μ-loop2
-loop-holds c = c .pre .1
-
-add-loop : tie.Need-add-loop Inv-loop μ-loop Inv-loop2 μ-loop2
-add-loop c = omega arith
-
-mul-loop : tie.Need-mul-loop Inv-loop μ-loop Inv-loop2 μ-loop2
-mul-loop c = omega (arith, square (c .loop .r) (omega arith))
-
-sub-r : tie.Need-sub-r Inv-loop μ-loop Inv-loop2 μ-loop2
-sub-r c = omega arith
-
-loop-less : tie.Need-loop-less Inv-loop μ-loop Inv-loop2 μ-loop2
-loop-less c = omega arith
-
-loop-again : tie.Need-loop-again Inv-loop μ-loop Inv-loop2 μ-loop2
-loop-again c = let h = over _ _ (c .before .before .pre .0 .0) (c .before .loop .inv .0) (c .loop-test .taken) in omega arith
-
-loop2-holds : tie.Need-loop2-holds Inv-loop μ-loop Inv-loop2 μ-loop2
-loop2-holds c = omega arith
-
-mul-loop2 : tie.Need-mul-loop2 Inv-loop μ-loop Inv-loop2 μ-loop2
-mul-loop2 c = omega (arith, square (c .loop2 .r) (omega arith))
-
-add-loop2 : tie.Need-add-loop2 Inv-loop μ-loop Inv-loop2 μ-loop2
-add-loop2 c = omega (arith, square (c .loop2 .r) (omega arith))
-
-add-r : tie.Need-add-r Inv-loop μ-loop Inv-loop2 μ-loop2
-add-r c = omega arith
-
-loop2-less : tie.Need-loop2-less Inv-loop μ-loop Inv-loop2 μ-loop2
-loop2-less c = let h = under _ _ (c .before .before .before .before .pre .0 .1) (c .loop2-test .taken) in omega arith
-
-loop2-again : tie.Need-loop2-again Inv-loop μ-loop Inv-loop2 μ-loop2
-loop2-again c = let h = under _ _ (c .before .before .before .before .pre .0 .1) (c .loop2-test .taken) in omega arith
-
-returns : tie.Need-returns Inv-loop μ-loop Inv-loop2 μ-loop2
-returns c = let i = c .before .loop2 .inv in record { low = i .0; high = i .1; above = i .2; under = c .loop2-test .left }
+returns : tie.Need-returns
+returns c = let s = c .before .before in nearest-root (s .args .n) (s .args .near) (s .pre .0 .0) (s .pre .0 .1) (c .before .if1 .taken) (c .if2 .taken)
 
 pub nearest-root-spec : {M : Type 1} → statement M
 nearest-root-spec =
     tie.close
-    (tie.spec Inv-loop μ-loop Inv-loop2 μ-loop2 loop-holds add-loop mul-loop sub-r loop-less loop-again loop2-holds mul-loop2 add-loop2 add-r loop2-less loop2-again returns)
+    (tie.spec mul-if1 (λ c. search needs) (λ c. search needs) (λ c. search needs) returns (λ c κs. search needs) (λ c. search needs))

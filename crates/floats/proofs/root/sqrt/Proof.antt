@@ -1,7 +1,8 @@
 -- `floats::sqrt` meets its contract: what is read from the pattern of x is x, and `proofs/RootCases.antt` has the definition at each kind of pattern. Assumes nothing.
 use mathlib.Core.Path.{_≡_, refl, sym, ap, _∙_, subst}
+use mathlib.Core.Logic.{inl, inr}
 use Prim.Native.Nat.{ℕ, _+_, _-_, _*_, _/_, _%_, _^_}
-use native.Mathlib.Nat.{mul-pos}
+use native.Mathlib.Nat.{mul-pos, eq-or-lt-of-le}
 use native.Mathlib.Omega.{arith}
 use lib.Pow.{pow-pos}
 use lib.Ieee.{Float, nan, binary32, div, ofBits}
@@ -28,37 +29,6 @@ returns c = subst (λ (x : Float). x ≡ sqrtOf x) (sym (is-nan (c .before .args
 float-to-bits-b : tie.Need-float-to-bits-b
 float-to-bits-b c = no-nan-T (c .before .args .x) (c .if1 .left)
 
-returns-2 : tie.Need-returns-2
-returns-2 c = at (c .before .before) 0 (c .if2 .taken) of-zero
-
-returns-3 : tie.Need-returns-3
-returns-3 c = at (c .before .before .before) 2147483648 (c .if3 .taken) of-minus-zero
-
-zero-by-zero : div binary32 (ofBits binary32 0) (ofBits binary32 0) ≡ nan
-unfolding div ofBits
-zero-by-zero = refl
-
-returns-4 : tie.Need-returns-4
-returns-4 c =
-    let s = c .before .before .before .before in
-    zero-by-zero ∙ sym (of-sign (bitsOf (s .args .x)) (c .if4 .taken) (bits-lt (s .args .x) (s .good .0 .1))) ∙ ap sqrtOf (reads s)
-
-returns-5 : tie.Need-returns-5
-returns-5 c =
-    let s = c .before .before .before .before .before in
-    at s (bitsOf (s .args .x)) refl (of-infinity (bitsOf (s .args .x)) (c .if5 .taken) (omega (arith, c .before .if4 .left, c .before .before .if3 .left)))
-
-small-root-bits-requires : tie.Need-small-root-bits-requires
-small-root-bits-requires c κs = search needs
-
-float-from-bits-result : tie.Need-float-from-bits-result
-float-from-bits-result c = rw (bits-no-nan (c .small-root-bits .result) (c .small-root-bits .ensures .0)) tt
-
-returns-6 : tie.Need-returns-6
-returns-6 c =
-    let s = c .before .before .before .before .before .before .before in
-    c .small-root-bits .ensures .1 ∙ sym (of-subnormal (bitsOf (s .args .x)) (omega (arith, c .before .before .before .before .before .if2 .left)) (c .before .if6 .taken)) ∙ ap sqrtOf (reads s)
-
 add-root-bits : tie.Need-add-root-bits
 add-root-bits c = search needs
 
@@ -68,18 +38,60 @@ sub-root-bits c = search needs
 root-bits-requires : tie.Need-root-bits-requires
 root-bits-requires c κs = search needs
 
-float-from-bits-result-2 : tie.Need-float-from-bits-result-2
-float-from-bits-result-2 c = rw (bits-no-nan (c .root-bits .result) (c .root-bits .ensures .most)) tt
+float-from-bits-result : tie.Need-float-from-bits-result
+float-from-bits-result c = rw (bits-no-nan (c .root-bits .result) (c .root-bits .ensures .most)) tt
 
-returns-7 : tie.Need-returns-7
-returns-7 c =
-    let s = c .before .before .before .before .before .before .before in
+returns-2 : tie.Need-returns-2
+returns-2 c =
+    let s = c .before .before .before .before in
     let r = c .root-bits in
     is-root ((8388608 + bitsOf (s .args .x) % 8388608) * 2 ^ (bitsOf (s .args .x) / 8388608 - 1)) (r .result) (mul-pos (omega arith) (pow-pos (bitsOf (s .args .x) / 8388608 - 1))) (omega (arith, r .ensures .least)) (r .ensures .most) (r .ensures .squares)
-    ∙ sym (of-normal (bitsOf (s .args .x)) (c .before .if6 .left) (c .before .before .if5 .left))
+    ∙ sym (of-normal (bitsOf (s .args .x)) (c .before .if3 .taken) (c .before .before .if2 .taken))
     ∙ ap sqrtOf (reads s)
+
+small-root-bits-requires : tie.Need-small-root-bits-requires
+small-root-bits-requires c κs = search needs
+
+float-from-bits-result-2 : tie.Need-float-from-bits-result-2
+float-from-bits-result-2 c = rw (bits-no-nan (c .small-root-bits .result) (c .small-root-bits .ensures .0)) tt
+
+returns-3 : tie.Need-returns-3
+returns-3 c =
+    let s = c .before .before .before .before .before in
+    c .small-root-bits .ensures .1 ∙ sym (of-subnormal (bitsOf (s .args .x)) (c .before .if4 .taken) (c .before .before .if3 .left)) ∙ ap sqrtOf (reads s)
+
+returns-4 : tie.Need-returns-4
+returns-4 c = at (c .before .before .before .before) 0 (omega (arith, c .if4 .left)) of-zero
+
+zero-by-zero : div binary32 (ofBits binary32 0) (ofBits binary32 0) ≡ nan
+unfolding div ofBits
+zero-by-zero = refl
+
+returns-5 : tie.Need-returns-5
+returns-5 c =
+    let s = c .before .before .before in
+    zero-by-zero ∙ sym (of-sign (bitsOf (s .args .x)) (c .if5 .taken) (bits-lt (s .args .x) (s .good .0 .1))) ∙ ap sqrtOf (reads s)
+
+returns-6 : tie.Need-returns-6
+returns-6 c = let s = c .before .before .before in elim (eq-or-lt-of-le (c .if5 .left)) [
+  | inl e ↦ at s 2147483648 e of-minus-zero
+  | inr l ↦ at s (bitsOf (s .args .x)) refl (of-infinity (bitsOf (s .args .x)) (c .before .if2 .left) l)
+]
 
 pub sqrt-spec : {M : Type 1} → statement M
 sqrt-spec =
     tie.close
-    (tie.spec returns float-to-bits-b returns-2 returns-3 returns-4 returns-5 small-root-bits-requires float-from-bits-result returns-6 add-root-bits sub-root-bits root-bits-requires float-from-bits-result-2 returns-7)
+    (tie.spec
+    returns
+    float-to-bits-b
+    add-root-bits
+    sub-root-bits
+    root-bits-requires
+    float-from-bits-result
+    returns-2
+    small-root-bits-requires
+    float-from-bits-result-2
+    returns-3
+    returns-4
+    returns-5
+    returns-6)
