@@ -14,7 +14,8 @@ ghost use Rattle.grid.specs.Cells.{column};
 ghost use Rattle.controls.specs.Controls.{lentOf, percentOf, amountAt, nextRow, betweenRows, sourceAt, heardAt, controlAt};
 ghost use Rattle.controls.specs.Places.{Spot, Holds};
 
-fn percent(amount: f32) -> f32
+// A slot's amount in percent as 0 to 1.
+pub fn percent(amount: f32) -> f32
     ensures { λ r. ⌜ r ≡ percentOf amount ⌝ }
 {
     clamp(amount, 0.0, 100.0) * 0.01

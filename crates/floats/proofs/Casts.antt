@@ -4,7 +4,7 @@ use mathlib.Core.Logic.{inl, inr}
 use mathlib.Core.Bool.{Bool, false, cond}
 use Prim.Native.Nat.{ℕ, zero, suc, _+_, _-_, _*_, _/_, _%_, _^_, _<_, _≤_, min}
 use native.Mathlib.Decide.{decLe}
-use native.Mathlib.Nat.{eq-or-lt-of-le, le-trans, le-of-eq, le-of-lt, lt-of-lt-of-le, lt-of-le-of-lt, lt-of-not-le, mul-one, mul-zero, zero-mul, zero-div, mul-le-mul-left, div-lt-iff-lt-mul, le-div-iff-mul-le, mul-le-mul, mul-assoc}
+use native.Mathlib.Nat.{eq-or-lt-of-le, le-trans, le-of-eq, le-of-lt, lt-of-lt-of-le, lt-of-le-of-lt, lt-of-not-le, mul-one, mul-zero, zero-mul, zero-div, div-eq-of-lt, mul-le-mul-left, div-lt-iff-lt-mul, le-div-iff-mul-le, mul-le-mul, mul-assoc}
 use native.Mathlib.Omega.{arith}
 use lib.IntN.{pos, negℤ}
 use lib.Dec.{leb}
@@ -50,26 +50,44 @@ whole-ge b k h =
 below-one : (b : ℕ) → b < 1602224128 → b / 8388608 < 127 → 0 ≡ wholeOf b
 below-one b B h = none (wholeOf b) (whole-lt b 0 (omega arith))
 
-taken-down : (b : ℕ) → b < 1602224128 → 127 ≤ b / 8388608 → (b % 8388608 + 8388608) * 1099511627776 / 2 ^ ((190 - b / 8388608) % 64) ≡ wholeOf b
-taken-down b B h =
-    let d = (b % 8388608 + 8388608) * 1099511627776 in
+-- from 1 on: the significand p places up and s places down
+moved : (b p s : ℕ) → b < 1602224128 → 127 ≤ b / 8388608 → p + 149 ≡ exponentOf b + s → (b % 8388608 + 8388608) * 2 ^ p / 2 ^ s ≡ wholeOf b
+moved b p s B h places =
     let e : significandOf b ≡ b % 8388608 + 8388608 = rw (ne-eqb (fieldOf b) 0 (some b B h)) (omega arith) in
-    ap (λ (s : ℕ). d / 2 ^ s) (shift b h) ∙ div-same d (2 ^ (190 - b / 8388608)) (significandOf b * 2 ^ exponentOf b) (2 ^ 149) (pow-pos (190 - b / 8388608)) (pow-pos 149) (rw e (powers (b % 8388608 + 8388608)))
+    div-same ((b % 8388608 + 8388608) * 2 ^ p) (2 ^ s) (significandOf b * 2 ^ exponentOf b) (2 ^ 149) (pow-pos s) (pow-pos 149) (rw e (powers (b % 8388608 + 8388608)))
   where
     some : (b : ℕ) → b < 1602224128 → 127 ≤ b / 8388608 → fieldOf b ≡ 0 → ⊥
     some b B h e = omega arith
 
+    powers : (m : ℕ) → m * 2 ^ p * 2 ^ 149 ≡ m * 2 ^ exponentOf b * 2 ^ s
+    powers m = mul-assoc m (2 ^ p) (2 ^ 149) ∙ ap (λ (z : ℕ). m * z) (sym (pow-add 2 p 149) ∙ ap (λ (z : ℕ). 2 ^ z) places ∙ pow-add 2 (exponentOf b) s) ∙ sym (mul-assoc m (2 ^ exponentOf b) (2 ^ s))
+
+taken-down : (b : ℕ) → b < 1602224128 → 127 ≤ b / 8388608 → (b % 8388608 + 8388608) * 1099511627776 / 2 ^ ((190 - b / 8388608) % 64) ≡ wholeOf b
+taken-down b B h = ap (λ (s : ℕ). (b % 8388608 + 8388608) * 1099511627776 / 2 ^ s) (shift b h) ∙ moved b 40 (190 - b / 8388608) B h (places b B h)
+  where
     shift : (b : ℕ) → 127 ≤ b / 8388608 → (190 - b / 8388608) % 64 ≡ 190 - b / 8388608
     shift b h = omega arith
 
-    places : 189 ≡ exponentOf b + (190 - b / 8388608)
-    places = omega arith
+    places : (b : ℕ) → b < 1602224128 → 127 ≤ b / 8388608 → 189 ≡ exponentOf b + (190 - b / 8388608)
+    places b B h = omega arith
 
-    powers : (m : ℕ) → m * 1099511627776 * 2 ^ 149 ≡ m * 2 ^ exponentOf b * 2 ^ (190 - b / 8388608)
-    powers m =
-        mul-assoc m 1099511627776 (2 ^ 149)
-        ∙ ap (λ (z : ℕ). m * z) (sym (pow-add 2 40 149) ∙ ap (λ (z : ℕ). 2 ^ z) places ∙ pow-add 2 (exponentOf b) (190 - b / 8388608))
-        ∙ sym (mul-assoc m (2 ^ exponentOf b) (2 ^ (190 - b / 8388608)))
+pub short-part-is : (b : ℕ) → b < 1325400064 → (b % 8388608 + 8388608) * 549755813888 / 2 ^ min 63 (189 - b / 8388608) ≡ wholeOf b
+short-part-is b B = elim (decLe 127 (b / 8388608)) [
+  | yes h ↦ ap (λ (s : ℕ). (b % 8388608 + 8388608) * 549755813888 / 2 ^ s) (all h) ∙ moved b 39 (189 - b / 8388608) (omega arith) h (places h)
+  | no g ↦ ap (λ (s : ℕ). (b % 8388608 + 8388608) * 549755813888 / 2 ^ s) (out (lt-of-not-le g)) ∙ div-eq-of-lt (digits b) ∙ below-one b (omega arith) (lt-of-not-le g)
+]
+  where
+    all : 127 ≤ b / 8388608 → min 63 (189 - b / 8388608) ≡ 189 - b / 8388608
+    all h = omega arith
+
+    out : b / 8388608 < 127 → min 63 (189 - b / 8388608) ≡ 63
+    out h = omega arith
+
+    places : 127 ≤ b / 8388608 → 188 ≡ exponentOf b + (189 - b / 8388608)
+    places h = omega arith
+
+    digits : (b : ℕ) → (b % 8388608 + 8388608) * 549755813888 < 2 ^ 63
+    digits b = omega arith
 
 -- the program's form: below 1 the digits are multiplied by 0
 module _ (b : ℕ) (B : b < 1602224128) where
@@ -113,7 +131,7 @@ unsigned-of-nan = refl
 
 -- ---- by the pattern
 -- a size from 2 ^ 31 on, infinity's too, is cut to 2 ^ 31, whose pattern is 1325400064
-pub clamped : (b : ℕ) → wholeOf (min (b % 2147483648) 1325400064) ≡ min (wholeOf b) (2 ^ 31)
+clamped : (b : ℕ) → wholeOf (min (b % 2147483648) 1325400064) ≡ min (wholeOf b) (2 ^ 31)
 clamped b = elim (decLe 1325400064 (b % 2147483648)) [
   | yes h ↦ ap wholeOf (top h) ∙ most (wholeOf b) (2 ^ 31) (whole-ge b 31 (omega arith))
   | no g ↦ let h = lt-of-not-le g in ap wholeOf (under h) ∙ size ∙ least (wholeOf b) (2 ^ 31) (le-of-lt (whole-lt b 31 (omega arith)))
@@ -142,7 +160,7 @@ module _ (b : ℕ) (B : b < 4294967296) (N : isNan (ofBits binary32 b) ≡ false
       field : fieldOf b ≤ 255
       field = omega arith
 
-  pub word-up : b < 2147483648 → min (wholeOf (min (b % 2147483648) 1325400064)) 2147483647 ≡ castWord (ofBits binary32 b)
+  word-up : b < 2147483648 → min (wholeOf (min (b % 2147483648) 1325400064)) 2147483647 ≡ castWord (ofBits binary32 b)
   unfolding castWord asWord toSigned
   word-up h = kinds (λ (x : Float). min (wholeOf (min (b % 2147483648) 1325400064)) 2147483647 ≡ castWord x)
       (λ l v. rw (cut (ofBits binary32 b) _ _ v .1, lt-leb 2147483648 b h, clamped b) (closer (wholeOf b)))
@@ -154,7 +172,7 @@ module _ (b : ℕ) (B : b < 4294967296) (N : isNan (ofBits binary32 b) ≡ false
       top : (z : ℕ) → 2 ^ 31 ≤ z → min (min z (2 ^ 31)) 2147483647 ≡ 2147483647
       top z h = omega arith
 
-  pub word-down : 2147483648 ≤ b → (4294967296 - wholeOf (min (b % 2147483648) 1325400064)) % 4294967296 ≡ castWord (ofBits binary32 b)
+  word-down : 2147483648 ≤ b → (4294967296 - wholeOf (min (b % 2147483648) 1325400064)) % 4294967296 ≡ castWord (ofBits binary32 b)
   unfolding castWord toSigned
   word-down h = kinds (λ (x : Float). (4294967296 - wholeOf (min (b % 2147483648) 1325400064)) % 4294967296 ≡ castWord x)
       (λ l v. rw (cut (ofBits binary32 b) _ _ v .1, le-leb 2147483648 b h, clamped b) (sym (back-at (min (wholeOf b) (2 ^ 31)))))
@@ -219,3 +237,31 @@ module _ (b : ℕ) (B : b < 4294967296) (N : isNan (ofBits binary32 b) ≡ false
     where
       never : 1602224128 ≤ 0 → ⊥
       never l = omega arith
+
+  -- below 2 ^ 31 in size nothing is cut
+  module _ (h : b % 2147483648 < 1325400064) where
+    short : min (b % 2147483648) 1325400064 ≡ b % 2147483648
+    short = omega arith
+
+    pub short-lt : wholeOf (b % 2147483648) < 2 ^ 31
+    short-lt = whole-lt (b % 2147483648) 31 (omega arith)
+
+    pub short-up : b < 2147483648 → wholeOf (b % 2147483648) ≡ castWord (ofBits binary32 b)
+    short-up s = under (wholeOf (b % 2147483648)) short-lt ∙ ap (λ (z : ℕ). min (wholeOf z) 2147483647) (sym short) ∙ word-up b B N s
+      where
+        under : (z : ℕ) → z < 2 ^ 31 → z ≡ min z 2147483647
+        under z l = omega arith
+
+    pub short-down : 2147483648 ≤ b → (4294967296 - wholeOf (b % 2147483648)) % 4294967296 ≡ castWord (ofBits binary32 b)
+    short-down s = ap (λ (z : ℕ). (4294967296 - wholeOf z) % 4294967296) (sym short) ∙ word-down b B N s
+
+  -- from 2 ^ 31 on all is
+  module _ (h : 1325400064 ≤ b % 2147483648) where
+    cut-off : min (b % 2147483648) 1325400064 ≡ 1325400064
+    cut-off = omega arith
+
+    pub top-up : b < 2147483648 → 2147483647 ≡ castWord (ofBits binary32 b)
+    top-up s = ap (λ (z : ℕ). min (wholeOf z) 2147483647) (sym cut-off) ∙ word-up b B N s
+
+    pub top-down : 2147483648 ≤ b → 2147483648 ≡ castWord (ofBits binary32 b)
+    top-down s = ap (λ (z : ℕ). (4294967296 - wholeOf z) % 4294967296) (sym cut-off) ∙ word-down b B N s

@@ -66,7 +66,7 @@ multiple : (s : Bool) (m : ℕ) (e : ℤ) (k : ℕ) → m * up e ≡ k * down e 
 multiple s m e k h = sym (floor-whole m e s (rw (h, mul-mod-left k (down e))))
 
 -- ---- the program's ways
-abbrev one : Float
+abbrev pub one : Float
 one = fin false 1 (pos 0)
 
 abbrev zer : Float
@@ -140,11 +140,11 @@ module _ (m : ℕ) (e : ℤ) (below : m * up e < 8388608 * down e) where
     abbrev N : ℕ
     N = near (m * up e) (down e)
 
-    t-is : t ≡ add binary32 (neg S) two23
+    pub t-is : t ≡ add binary32 (neg S) two23
     unfolding sub add sum neg
     t-is = ap (λ (y : Float). add binary32 y two23) (sym (neg-round (m * up e * 1 + 8388608 * down e) (down e * 1)))
 
-    sum-size : HasValue (neg S) true N 1
+    pub sum-size : HasValue (neg S) true N 1
     sum-size = neg-value S N (sum-value m e below)
 
     small : c ≤ 2 ^ 24
@@ -220,7 +220,7 @@ module _ (m : ℕ) (e : ℤ) (below : m * up e < 8388608 * down e) where
     ]
 
 -- ---- x from 2 ^ 23 on is whole
-pow-ge : (k : ℕ) → 2 ≤ 2 ^ suc k
+pub pow-ge : (k : ℕ) → 2 ≤ 2 ^ suc k
 pow-ge k = pow-mono {i = 1} (omega arith)
 
 no-fraction : (s : Bool) (m k : ℕ) → T (fits binary32 (fin s m (negsuc k))) → 8388608 * 2 ^ suc k ≤ m → ⊥
@@ -256,13 +256,13 @@ from-down (fin true m e) h p q = large true m e h (let g = ltb-false (m * up e *
 from-down (fin false m e) h p q = apart (sym (lt-ltb 0 (8388608 * down e + m * up e * 1) (let d = down-pos e in omega arith)) ∙ q)
 
 -- ---- below 2 ^ 23 in size
-plus-is : (m : ℕ) (e : ℤ) → near-whole (fin false m e) ≡ shifted (fin false m e)
+pub plus-is : (m : ℕ) (e : ℤ) → near-whole (fin false m e) ≡ shifted (fin false m e)
 plus-is m e = ap (λ (b : Bool). sub binary32 (add binary32 (fin false m e) (cond b (neg two23) two23)) (cond b (neg two23) two23)) not-below
   where
     not-below : lt (fin false m e) zer ≡ false
     not-below = unfold lt in le-ltb (m * up e * 1) (0 * down e) (omega arith)
 
-minus-is : (m : ℕ) (e : ℤ) → 0 < m * up e → near-whole (fin true m e) ≡ sub binary32 (add binary32 (fin true m e) (neg two23)) (neg two23)
+pub minus-is : (m : ℕ) (e : ℤ) → 0 < m * up e → near-whole (fin true m e) ≡ sub binary32 (add binary32 (fin true m e) (neg two23)) (neg two23)
 minus-is m e some =
     ap (λ (b : Bool). sub binary32 (add binary32 (fin true m e) (cond b (neg two23) two23)) (cond b (neg two23) two23)) (lt-across m e zer 0 1 some (refl, refl))
 
@@ -290,7 +290,7 @@ inner P f g (inf true) p q = apart (sym (unfold lt neg in q))
 inner P f g (fin false m e) p q = f m e (under m e p)
 inner P f g (fin true m e) p q = g m e (over-minus m e q)
 
-pub stays : (x : Float) → T (fits binary32 x) → lt x two23 ≡ true → lt (neg two23) x ≡ true → eq (near-whole x) x ≡ true → x ≡ floorOf x
+stays : (x : Float) → T (fits binary32 x) → lt x two23 ≡ true → lt (neg two23) x ≡ true → eq (near-whole x) x ≡ true → x ≡ floorOf x
 stays x h p q = inner (λ (x : Float). T (fits binary32 x) → eq (near-whole x) x ≡ true → x ≡ floorOf x) plus minus x p q h
   where
     plus : (m : ℕ) (e : ℤ) → m * up e < 8388608 * down e → T (fits binary32 (fin false m e)) → eq (near-whole (fin false m e)) (fin false m e) ≡ true → fin false m e ≡ floorOf (fin false m e)
@@ -300,7 +300,7 @@ stays x h p q = inner (λ (x : Float). T (fits binary32 x) → eq (near-whole x)
     minus zero e b h t = multiple true 0 e 0 (omega arith)
     minus (suc m) e b h t = let P = mul-pos (zero-lt-suc m) (up-pos e) in down-whole (suc m) e b P h (rw (minus-is (suc m) e P) at t)
 
-pub moves : (x : Float) → T (fits binary32 x) → lt x two23 ≡ true → lt (neg two23) x ≡ true → eq (near-whole x) x ≡ false → cond (lt x (near-whole x)) (sub binary32 (near-whole x) one) (near-whole x) ≡ floorOf x
+moves : (x : Float) → T (fits binary32 x) → lt x two23 ≡ true → lt (neg two23) x ≡ true → eq (near-whole x) x ≡ false → cond (lt x (near-whole x)) (sub binary32 (near-whole x) one) (near-whole x) ≡ floorOf x
 moves x h p q = inner (λ (x : Float). T (fits binary32 x) → eq (near-whole x) x ≡ false → cond (lt x (near-whole x)) (sub binary32 (near-whole x) one) (near-whole x) ≡ floorOf x) plus minus x p q h
   where
     by-test : (x y : Float) → (lt x y ≡ true → sub binary32 y one ≡ floorOf x) → (lt x y ≡ false → y ≡ floorOf x) → cond (lt x y) (sub binary32 y one) y ≡ floorOf x
@@ -316,3 +316,11 @@ moves x h p q = inner (λ (x : Float). T (fits binary32 x) → eq (near-whole x)
     minus : (m : ℕ) (e : ℤ) → m * up e < 8388608 * down e → T (fits binary32 (fin true m e)) → eq (near-whole (fin true m e)) (fin true m e) ≡ false → cond (lt (fin true m e) (near-whole (fin true m e))) (sub binary32 (near-whole (fin true m e)) one) (near-whole (fin true m e)) ≡ floorOf (fin true m e)
     minus zero e b h t = apart (sym (minus-zero e h) ∙ t)
     minus (suc m) e b h t = let P = mul-pos (zero-lt-suc m) (up-pos e) in rw (minus-is (suc m) e P) (by-test (fin true (suc m) e) _ (down-less (suc m) e b P h) (down-same (suc m) e b P h))
+
+-- what the program gives, from the nearest whole number
+pub found : (x : Float) → T (fits binary32 x) → lt x two23 ≡ true → lt (neg two23) x ≡ true → cond (eq (near-whole x) x) x (cond (lt x (near-whole x)) (sub binary32 (near-whole x) one) (near-whole x)) ≡ floorOf x
+found x h p q = go (eq (near-whole x) x) refl
+  where
+    go : (b : Bool) → eq (near-whole x) x ≡ b → cond b x (cond (lt x (near-whole x)) (sub binary32 (near-whole x) one) (near-whole x)) ≡ floorOf x
+    go true t = stays x h p q t
+    go false t = moves x h p q t

@@ -4,6 +4,7 @@ pub mod Read
 pub mod Patterns
 pub mod Values
 pub mod Exact
+pub mod Fractions
 pub mod Entries
 pub mod PowerCases
 pub mod PowerReview
@@ -11,6 +12,7 @@ pub mod RootOnly
 pub mod RootSquares
 mod Below
 mod Casts
+mod Closest
 mod FloorRoot
 mod Floors
 mod Halves
@@ -20,3 +22,4 @@ mod RootCases
 mod RootPatterns
 mod Shifts
 mod Signs
+mod SmallFloors

@@ -25,7 +25,7 @@ dropped n d D lo hi =
     let h : w < 2 ^ 173 = div-lt-iff-lt-mul D .1 (lt-of-lt-of-le (mul-lt-mul-of-pos-right hi (pow-pos 149)) (le-of-eq (mul-right-comm 16777216 d (2 ^ 149)))) in
     exactly (size w) (size-le w 173 h) (lt-of-not-le (λ (g : size w ≤ 172). not-le-of-lt (lt-of-lt-of-le (size-lt w) (pow-mono g)) l))
 
-rounded : (n d : ℕ) → 0 < d → 8388608 * d ≤ n → n < 16777216 * d → closest n d ≤ 2 ^ 24 → HasValue (round binary32 false n d) false (closest n d) 1
+pub rounded : (n d : ℕ) → 0 < d → 8388608 * d ≤ n → n < 16777216 * d → closest n d ≤ 2 ^ 24 → HasValue (round binary32 false n d) false (closest n d) 1
 rounded n d D lo hi top =
     let e : round binary32 false n d ≡ units binary32 false (closest n d) 149 =
     round-is binary32 false n d

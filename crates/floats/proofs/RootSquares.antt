@@ -15,7 +15,7 @@ use Rattle.floats.specs.Sqrt.{isqrt, nearer, rootUnits, BySquares}
 use Rattle.floats.proofs.FloorRoot.{floor-root}
 
 -- `nearest` goes by how w lies to h: what holds of each outcome holds of the result
-by-comparing : (P : ℕ → Type 0) (q w h : ℕ) → (w < h → P q) → (w ≡ h → P (q + q % 2)) → (h < w → P (suc q)) → P (nearest q (compare w h))
+pub by-comparing : (P : ℕ → Type 0) (q w h : ℕ) → (w < h → P q) → (w ≡ h → P (q + q % 2)) → (h < w → P (suc q)) → P (nearest q (compare w h))
 by-comparing P q w h below level over = pick (compare w h) (leb-true w h) (leb-false w h) (eqb-true w h) (eqb-false w h)
   where
     pick : (o : Ordering) → (isLe o ≡ true → w ≤ h) → (isLe o ≡ false → h < w) → (isEq o ≡ true → w ≡ h) → (isEq o ≡ false → w ≡ h → ⊥) → P (nearest q o)

@@ -1,6 +1,6 @@
 // Casts between floats and integers, as Rust's `as` makes them: a float's saturate, and NaN gives 0;
 // an integer gives the nearest float, ties to even. They go by the bit pattern; where they choose,
-// both values are at hand, so that the compiler need not branch.
+// both values are at hand, so that the compiler need not branch, but on what is out of range.
 ghost use mathlib.Core.Path.{_≡_};
 ghost use Prim.Native.Nat.{_*_, _/_, _^_, _<_, min};
 ghost use lib.IntN.{pos};
@@ -27,6 +27,16 @@ fn whole_part(b: u32) -> u64
     digits * 0x100_0000_0000 >> (190 - field) % 64
 }
 
+// The same below 2^31, and quicker. One place lower in the u64, the significand of a number below 1
+// goes out by 63 places, so that no more are needed.
+fn short_part(b: u32) -> u64
+    requires { ⌜ b < 0x4f00_0000 ⌝ }
+    ensures { λ r. ⌜ r ≡ significandOf b * 2 ^ exponentOf b / 2 ^ 149 ⌝ }
+{
+    let digits = (b % 0x80_0000 + 0x80_0000) as u64;
+    digits * 0x80_0000_0000 >> least(63, 189 - b / 0x80_0000)
+}
+
 // `x as i32 as u32`. 0x4f00_0000 is the pattern of 2^31.
 pub fn cast_word(x: f32) -> u32
     ensures { λ r. ⌜ r ≡ castWord x ⌝ }
@@ -35,8 +45,16 @@ pub fn cast_word(x: f32) -> u32
         return 0;
     }
     let b = f32::to_bits(x);
-    let size = whole_part(least(b % 0x8000_0000, 0x4f00_0000));
-    let up = least(size as u32, 0x7fff_ffff);
+    let c = b % 0x8000_0000;
+    if c >= 0x4f00_0000 {
+        return if b < 0x8000_0000 {
+            0x7fff_ffff
+        } else {
+            0x8000_0000
+        };
+    }
+    let size = short_part(c);
+    let up = size as u32;
     let down = ((0x1_0000_0000 - size) % 0x1_0000_0000) as u32;
     if b < 0x8000_0000 { up } else { down }
 }

@@ -9,3 +9,4 @@ pub mod CascadeLaws
 pub mod DecimatedLaws
 pub mod Cuts
 pub mod RangeLaws
+pub mod Nothing

@@ -4,26 +4,30 @@ use mathlib.Core.Path.{_≡_, refl, sym, _∙_, ap, fun-ext}
 use mathlib.Core.List.{List, [], _∷_}
 use Prim.Native.Nat.{ℕ, zero, suc, _+_, _-_, _*_, _^_, _≤_, _<_}
 use native.Mathlib.Decide.{decLt}
-use native.Mathlib.Nat.{add-zero}
+use native.Mathlib.Nat.{add-zero, zero-mul}
 use native.Mathlib.Omega.{arith}
 use Rattle.grid.specs.Functions.{upto}
-use Rattle.grid.proofs.FunctionLaws.{upto-in, upto-out, upd-self}
-use Rattle.halfband.specs.Halfband.{Kind, Sections, View, after, stage, cascade}
+use Rattle.grid.proofs.FunctionLaws.{upto-in, upto-out, upto-none, upd-self}
+use Rattle.halfband.specs.Halfband.{Kind, Sections, View, after, out, stage, cascade}
 use Rattle.halfband.specs.Ranges.{from, total, one, cellsAfter, outputs}
-use Rattle.halfband.proofs.Cuts.{cascade-suc, cascade-above, Joined, cut-joined}
+use Rattle.halfband.proofs.Cuts.{cascade-above, Joined, cut-joined}
 
 module _ {A : Type 0} (K : Kind A) (Ds : ℕ → Sections A) where
-  stage-none : (D : Sections A) (b : ℕ) (v : View A) → stage K D b 0 v .cells ≡ v .cells
+  stage-still : (D : Sections A) (b : ℕ) (v : View A) → stage K D b 0 v ≡ v
   unfolding stage after
-  stage-none D b v = upd-self (v .cells) b
+  stage-still D b v =
+      let rows = upto-none (out K D (v .cells b) (v .rows)) (v .rows) in
+      let cells = upd-self (v .cells) b in
+      λ j. record { rows = rows j; cells = cells j }
 
-  -- no frame leaves all cells
-  pub cascade-none : (s : ℕ) (v : View A) → cascade K Ds s 0 v .cells ≡ v .cells
+  -- no frame leaves all rows and cells
+  pub cascade-still : (s : ℕ) (v : View A) → cascade K Ds s 0 v ≡ v
   unfolding cascade
-  cascade-none zero v = refl
-  cascade-none (suc s) v =
-      rw (cascade-suc K Ds s 0 v)
-      (cascade-none s _ ∙ ap (λ (f : ℕ). stage K (Ds s) s f v .cells) (omega arith) ∙ stage-none (Ds s) s v)
+  cascade-still zero v = refl
+  cascade-still (suc s) v = rw (zero-mul, stage-still) (cascade-still s v)
+
+  pub cascade-none : (s : ℕ) (v : View A) → cascade K Ds s 0 v .cells ≡ v .cells
+  cascade-none s v = ap (λ (u : View A). u .cells) (cascade-still s v)
 
 -- a call for f frames looks at its own samples and the cells of its own stages, and at no other
 module _ {A : Type 0} (K : Kind A) (Ds : ℕ → Sections A) (s f : ℕ) (v w : View A)

@@ -1,3 +1,5 @@
 pub mod Appends
 pub mod Few
 pub mod Moves
+pub mod Powers
+pub mod SumLaws

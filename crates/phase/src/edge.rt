@@ -24,6 +24,12 @@ pub fn unit(word: u32) -> f32
     ensures { λ r. ⌜ r ≡ unitOf word ⌝ }
 {
     let t = signed(word);
+    // Its floor is -1 or 0. The law of that asks only that `t` lies between -1 and 1.
+    if t < 1.0 {
+        if t > -1.0 {
+            return if t < 0.0 { t + 1.0 } else { t + 0.0 };
+        }
+    }
     t - floor(t)
 }
 

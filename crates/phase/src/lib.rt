@@ -3,13 +3,17 @@
 pub mod branches;
 pub mod edge;
 pub mod map;
+pub mod power;
 pub mod quantise;
 pub mod reads;
 pub mod slope;
+pub mod sums;
 
 pub use map::Slot;
 pub use map::apply;
+pub use map::apply_with;
 pub use map::shift;
+pub use power::map_power;
 pub use reads::LaneReads;
 pub use reads::MAX_READS;
 pub use reads::ReadList;
@@ -19,3 +23,4 @@ pub use reads::read_sum;
 pub use slope::StretchAnswer;
 pub use slope::stretch;
 pub use slope::stretch_of;
+pub use sums::mapped_sum;

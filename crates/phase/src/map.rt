@@ -9,9 +9,9 @@ use crate::edge::remap;
 use crate::edge::smooth_box;
 use crate::edge::unit;
 use crate::edge::wrap;
+use crate::power::map_power;
 use crate::quantise::quantise;
 use crate::reads::ReadList;
-use floats::exp2;
 use floats::floor;
 use lanes::Numbers;
 use lanes::above;
@@ -33,6 +33,7 @@ ghost use lib.ListN.{length};
 ghost use Rattle.floats.specs.Exp2.{entries};
 ghost use Rattle.phase.specs.Map.{syncMap, pinchMap, leanMap, pulseWidthMap, flipMap, mirrorMap, oddEvenMap, remapDrawnMap, remapMirroredMap, remapQuadMap, remapSineMap, mapOf, applyOf, shiftOf};
 ghost use Rattle.phase.specs.Branches.{Makes};
+ghost use Rattle.phase.specs.Power.{ratioOf, mapPower};
 
 pub const PULSE_MAX: f32 = 0.95;
 
@@ -48,11 +49,10 @@ pub struct Slot {
 
 // The slave runs `ratio` times faster and restarts with the cycle: after the restart it's at
 // ratio × t, before it at ratio × (t + 1). Softness widens the crossfade at the restart.
-fn sync(powers: &[u32; 257], character: f32, a: f32, half: f32, word: u32, gain: f32) -> Branches
-    requires { ⌜ now powers ≡ entries ⌝ }
+fn sync(ratio: f32, character: f32, a: f32, half: f32, word: u32, gain: f32) -> Branches
+    requires { ⌜ ratio ≡ ratioOf a ⌝ }
     ensures { λ r. ⌜ Makes r (syncMap character a half word gain) ⌝ }
 {
-    let ratio = exp2(powers, a * 4.0);
     let t = signed(word);
     let after = to_word(ratio * t);
     let whole = to_word(ratio);
@@ -175,23 +175,24 @@ fn remap_sine(numbers: Numbers, a: f32, word: u32, gain: f32) -> Branches
     Branches::one(add_words(word, to_word(offset)), gain)
 }
 
-// One read through a slot's map; a mode that is no phase mode, or moves the phase by a source, keeps it.
-fn map(
-    powers: &[u32; 257],
+// One read through a slot's map, whose power is `power`; a mode that is no phase mode, or moves the phase
+// by a source, keeps it.
+pub fn map(
     numbers: Numbers,
     curve: &[f32],
     slot: Slot,
     a: f32,
+    power: f32,
     half: f32,
     word: u32,
     gain: f32,
 ) -> Branches
-    requires { ⌜ now powers ≡ entries ⌝ ∗ ⌜ 1024 < length (now curve) ⌝ }
+    requires { ⌜ power ≡ mapPower (slot .mode) a ⌝ ∗ ⌜ 1024 < length (now curve) ⌝ }
     ensures { λ r. ⌜ Makes r (mapOf (numbers .sin) (numbers .atan) (now (curve .entry)) slot a half word gain) ⌝ }
 {
     let mode = slot.mode;
     match mode {
-        1 => sync(powers, slot.character, a, half, word, gain),
+        1 => sync(power, slot.character, a, half, word, gain),
         2 => pinch(numbers, mode, a, word, gain),
         3 => pinch(numbers, mode, a, word, gain),
         4 => pinch(numbers, mode, a, word, gain),
@@ -205,24 +206,24 @@ fn map(
         12 => remap_mirrored(curve, a, word, gain),
         13 => remap_sine(numbers, a, word, gain),
         14 => remap_quad(curve, a, word, gain),
-        15 => quantise(powers, a, half, word, gain),
+        15 => quantise(power, a, half, word, gain),
         16 => odd_even(a, word, gain),
         _ => Branches::one(word, gain),
     }
 }
 
 // The read list after `slot` shapes `list`, at `amount` (0 to 1), with crossfades `half` cycles either
-// side of each edge.
-pub fn apply(
-    powers: &[u32; 257],
+// side of each edge; `power` is the map's.
+pub fn apply_with(
     numbers: Numbers,
     curve: &[f32],
     slot: Slot,
     amount: f32,
+    power: f32,
     half: f32,
     list: ReadList,
 ) -> ReadList
-    requires { ⌜ now powers ≡ entries ⌝ ∗ ⌜ 1024 < length (now curve) ⌝ ∗ ⌜ list .count ≤ 4 ⌝ }
+    requires { ⌜ power ≡ mapPower (slot .mode) amount ⌝ ∗ ⌜ 1024 < length (now curve) ⌝ ∗ ⌜ list .count ≤ 4 ⌝ }
     ensures { λ r. ⌜ r ≡ applyOf (numbers .sin) (numbers .atan) (now (curve .entry)) slot amount half list ⌝ }
 {
     let words = list.word;
@@ -236,11 +237,11 @@ pub fn apply(
     // Each read has its own place, so that the list can stay in registers; and with `map` at more than
     // one place the compiler keeps it a function, and does not work out every mode's numbers for each.
     let first = map(
-        powers,
         numbers,
         curve,
         slot,
         amount,
+        power,
         half,
         words[0],
         gains[0],
@@ -250,11 +251,11 @@ pub fn apply(
         return out;
     }
     let second = map(
-        powers,
         numbers,
         curve,
         slot,
         amount,
+        power,
         half,
         words[1],
         gains[1],
@@ -264,11 +265,11 @@ pub fn apply(
         return out;
     }
     let third = map(
-        powers,
         numbers,
         curve,
         slot,
         amount,
+        power,
         half,
         words[2],
         gains[2],
@@ -278,16 +279,33 @@ pub fn apply(
         return out;
     }
     let fourth = map(
-        powers,
         numbers,
         curve,
         slot,
         amount,
+        power,
         half,
         words[3],
         gains[3],
     );
     out.append(fourth)
+}
+
+// The same, with the map's power worked out.
+pub fn apply(
+    powers: &[u32; 257],
+    numbers: Numbers,
+    curve: &[f32],
+    slot: Slot,
+    amount: f32,
+    half: f32,
+    list: ReadList,
+) -> ReadList
+    requires { ⌜ now powers ≡ entries ⌝ ∗ ⌜ 1024 < length (now curve) ⌝ ∗ ⌜ list .count ≤ 4 ⌝ }
+    ensures { λ r. ⌜ r ≡ applyOf (numbers .sin) (numbers .atan) (now (curve .entry)) slot amount half list ⌝ }
+{
+    let power = map_power(powers, slot.mode, amount);
+    apply_with(numbers, curve, slot, amount, power, half, list)
 }
 
 // Moves every read in `list` on by `offset` words: where an inter-oscillator mode adds its own phase. A

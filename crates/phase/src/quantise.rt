@@ -3,7 +3,6 @@
 // running phase, so the steps fade into the plain wave instead of folding.
 use crate::branches::Branches;
 use floats::abs;
-use floats::exp2;
 use floats::floor;
 use lanes::above;
 use lanes::clamp;
@@ -13,9 +12,9 @@ use lanes::signed;
 use lanes::smoothstep;
 use lanes::to_word;
 ghost use mathlib.Core.Path.{_≡_};
-ghost use Rattle.floats.specs.Exp2.{entries};
 ghost use Rattle.phase.specs.Quantise.{stepsOf, lineOf, edgeOf, branchOf, quantiseOf};
 ghost use Rattle.phase.specs.Branches.{Makes};
+ghost use Rattle.phase.specs.Power.{stepCount};
 
 // f32::MAX.
 const MAX: f32 = 3.4028235e38;
@@ -44,11 +43,10 @@ pub struct Edge {
     pub target: f32,
 }
 
-fn steps_of(powers: &[u32; 257], a: f32, half: f32) -> Steps
-    requires { ⌜ now powers ≡ entries ⌝ }
+fn steps_of(steps: f32, a: f32, half: f32) -> Steps
+    requires { ⌜ steps ≡ stepCount a ⌝ }
     ensures { λ r. ⌜ r ≡ stepsOf a half ⌝ }
 {
-    let steps = exp2(powers, (1.0 - a) * 10.0) * 2.0;
     let step = 1.0 / steps;
     let toward = clamp(half * 2.0 * steps - 1.0, 0.0, 1.0);
     let half = min(half, step * 0.499);
@@ -101,11 +99,11 @@ fn branch(target: f32, toward: f32, at: f32) -> u32
     to_word((target - at) * toward + at)
 }
 
-pub fn quantise(powers: &[u32; 257], a: f32, half: f32, word: u32, gain: f32) -> Branches
-    requires { ⌜ now powers ≡ entries ⌝ }
+pub fn quantise(steps: f32, a: f32, half: f32, word: u32, gain: f32) -> Branches
+    requires { ⌜ steps ≡ stepCount a ⌝ }
     ensures { λ r. ⌜ Makes r (quantiseOf a half word gain) ⌝ }
 {
-    let s = steps_of(powers, a, half);
+    let s = steps_of(steps, a, half);
     let e = edge_of(s.steps, s.step, word);
     let left = branch(e.target, s.toward, e.left);
     let right = branch(e.target, s.toward, e.right);

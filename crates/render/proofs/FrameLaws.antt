@@ -23,7 +23,7 @@ use Rattle.render.specs.declared.cells.Voice.{Voice}
 use Rattle.render.specs.declared.cells.Stepped.{Stepped}
 use Rattle.render.specs.declared.cells.HostFrame.{HostFrame}
 use Rattle.render.specs.Lane.{Lent, Inputs, inputsOf, stepAt, voiceAfter, sampleAt}
-use Rattle.render.specs.Frames.{rawOf, frameOf, hostAt, frameAt, Cut, Frames, Ran}
+use Rattle.render.specs.Frames.{rawOf, frameOf, driveAt, hostAt, frameAt, Powered, Cut, Frames, Ran}
 use Rattle.render.proofs.InputLaws.{inputs-controls, inputs-inner, inputs-curve, inputs-cycle, inputs-words, inputs-steps}
 use Rattle.render.proofs.VoiceLaws.{voice-none, voice-more, voice-add, sample-is, sample-add}
 
@@ -38,16 +38,16 @@ sub-of host factor sub h = mul-add-mod-self-right host factor sub ∙ mod-eq-of-
 pub step-frame : (b : BlockSettings) (i : Inputs) (host sub : ℕ) (v : Voice) → sub < b .shaper .factor
     → stepAt b i (host * b .shaper .factor + sub) v
     ≡ frameAt (b .shaper) (fmScale (b .rate) (b .shaper .factor))
-    (hostAt (i .controls .base0) (i .controls .base1) (i .controls .mod0) (i .controls .mod1) (i .inner) host)
+    (hostAt (b .shaper) (i .controls .base0) (i .controls .base1) (i .controls .mod0) (i .controls .mod1) (i .inner) host)
     (i .controls .source0) (i .controls .source1) (i .curve) (i .cycle) (i .words) (i .steps) host sub v
-unfolding stepAt readsAt shapedAt control0At control1At controlAt frameAt frameOf rawOf hostAt _>>=_
+unfolding stepAt readsAt shapedAt control0At control1At controlAt frameAt frameOf rawOf hostAt driveAt _>>=_
 step-frame b i host sub v h = rw (host-of host (b .shaper .factor) sub h, sub-of host (b .shaper .factor) sub h)
 
 -- the same, by the inputs' own names
 step-by : (b : BlockSettings) (i : Inputs) (host sub : ℕ) (v : Voice) (c : Controls) (inner curve cycle : List Float) (words steps : List ℕ) → sub < b .shaper .factor
     → i .controls ≡ c → i .inner ≡ inner → i .curve ≡ curve → i .cycle ≡ cycle → i .words ≡ words → i .steps ≡ steps
     → stepAt b i (host * b .shaper .factor + sub) v
-    ≡ frameAt (b .shaper) (fmScale (b .rate) (b .shaper .factor)) (hostAt (c .base0) (c .base1) (c .mod0) (c .mod1) inner host)
+    ≡ frameAt (b .shaper) (fmScale (b .rate) (b .shaper .factor)) (hostAt (b .shaper) (c .base0) (c .base1) (c .mod0) (c .mod1) inner host)
     (c .source0) (c .source1) curve cycle words steps host sub v
 step-by b i host sub v c inner curve cycle words steps h ec ei eu ey ew es =
     rw (← ec, ← ei, ← eu, ← ey, ← ew, ← es) (step-frame b i host sub v h)
@@ -100,7 +100,7 @@ module _ {b : BlockSettings} {i : Inputs} {lane q row : ℕ} {v : Voice} {work :
 -- what `load_host` and `frame_at` return
 abbrev pub heldOf : Settings → Lent → ℕ → ℕ → HostFrame
 heldOf s l lane host =
-    hostAt (getD (l .base0) lane nan) (getD (l .base1) lane nan)
+    hostAt s (getD (l .base0) lane nan) (getD (l .base1) lane nan)
     (lentOf (s .lanes) lane (s .frames) (l .mod0)) (lentOf (s .lanes) lane (s .frames) (l .mod1))
     (column nan (s .lanes) lane (spansOf (s .frames)) (l .inner)) host
 
@@ -108,6 +108,10 @@ abbrev pub steppedOf : Settings → Float → Lent → ℕ → ℕ → HostFrame
 steppedOf s scale l lane host h sub v =
     frameAt s scale h (lentOf (s .lanes) lane (s .frames) (l .source0)) (lentOf (s .lanes) lane (s .frames) (l .source1)) (l .curve) (l .cycle)
     (column 0 (s .lanes) lane (s .frames * s .factor) (l .words)) (column 0 (s .lanes) lane (s .frames * s .factor) (l .steps)) host sub v
+
+pub powered : (s : Settings) (l : Lent) (lane host : ℕ) (h : HostFrame) → h ≡ heldOf s l lane host → Powered s h
+unfolding hostAt driveAt
+powered s l lane host h e = rw e (record { power0 = refl; power1 = refl })
 
 abbrev blockOf : Settings → ℕ → Designs → BlockSettings
 blockOf s rate designs = record { shaper = s; rate = rate; designs = designs }

@@ -1,7 +1,6 @@
 -- The laws of a lane's share.
 pub mod InputLaws
 pub mod VoiceLaws
-pub mod RawLaws
 pub mod FrameLaws
 pub mod ShareLaws
 pub mod PlainLaws

@@ -2,7 +2,7 @@
 -- of frames promises. Definitions only.
 use mathlib.Core.Path.{_≡_}
 use mathlib.Core.List.{List}
-use mathlib.Core.Option.{Option}
+use mathlib.Core.Option.{Option, none}
 use Prim.Native.Nat.{ℕ, _+_, _*_, _/_, _≤_, _<_}
 use lib.ListN.{length, getD}
 use lib.Ieee.{Float, nan}
@@ -16,6 +16,7 @@ use Rattle.phase.specs.Reads.{readSum}
 use Rattle.voice.specs.declared.control.Control.{Control}
 use Rattle.voice.specs.PhaseRun.{fmScale, readsOf}
 use Rattle.voice.specs.WaveRun.{shapedOf}
+use Rattle.voice.specs.Power.{powerOf}
 use Rattle.controls.specs.Controls.{isGiven, amountAt, heardAt}
 use Rattle.controls.specs.Places.{Spot, Holds}
 use Rattle.shaper.specs.declared.settings.Settings.{Settings}
@@ -23,6 +24,7 @@ use Rattle.render.specs.declared.cells.BlockSettings.{BlockSettings}
 use Rattle.render.specs.declared.cells.Voice.{Voice}
 use Rattle.render.specs.declared.cells.Raw.{Raw}
 use Rattle.render.specs.declared.cells.Stepped.{Stepped}
+use Rattle.render.specs.declared.cells.Drive.{Drive}
 use Rattle.render.specs.declared.cells.HostFrame.{HostFrame}
 use Rattle.render.specs.Lane.{Inputs, voiceAfter, sampleAt}
 
@@ -42,10 +44,19 @@ frameOf s scale curve cycle control0 control1 inner word step v = do
     voice = record { pairs0 = shaped .pairs0; pairs1 = shaped .pairs1; fm0 = raw .fm0; fm1 = raw .fm1; last = shaped .last };
   }
 
+-- a slot's amount at a host frame, and its power at that amount
+unfoldable pub driveAt : ℕ → Float → Option (List Float) → ℕ → Drive
+driveAt mode base modulation host =
+    record { amount = amountAt base modulation host; power = powerOf mode (amountAt base modulation host) }
+
 -- what holds for a whole host frame
-unfoldable pub hostAt : Float → Float → Option (List Float) → Option (List Float) → List Float → ℕ → HostFrame
-hostAt base0 base1 mod0 mod1 inner host =
-    record { amount0 = amountAt base0 mod0 host; amount1 = amountAt base1 mod1 host; inner = getD inner (host / 32) nan }
+unfoldable pub hostAt : Settings → Float → Float → Option (List Float) → Option (List Float) → List Float → ℕ → HostFrame
+hostAt s base0 base1 mod0 mod1 inner host =
+    record {
+      drive0 = driveAt (s .slot0 .mode) base0 mod0 host;
+      drive1 = driveAt (s .slot1 .mode) base1 mod1 host;
+      inner = getD inner (host / 32) nan;
+    }
 
 -- a slot's amount, and what it hears
 abbrev pub heardControl : ℕ → Settings → Float → Option (List Float) → Float → ℕ → ℕ → Control
@@ -55,11 +66,21 @@ heardControl mode s amount source last host sub =
 -- rendered frame `sub` of host frame `host`
 unfoldable pub frameAt : Settings → Float → HostFrame → Option (List Float) → Option (List Float) → List Float → List Float → List ℕ → List ℕ → ℕ → ℕ → Voice → Stepped
 frameAt s scale h source0 source1 curve cycle words steps host sub v = do
-  control0 ← heardControl (s .slot0 .mode) s (h .amount0) source0 (v .last) host sub
-  control1 ← heardControl (s .slot1 .mode) s (h .amount1) source1 (v .last) host sub
+  control0 ← heardControl (s .slot0 .mode) s (h .drive0 .amount) source0 (v .last) host sub
+  control1 ← heardControl (s .slot1 .mode) s (h .drive1 .amount) source1 (v .last) host sub
   frameOf s scale curve cycle control0 control1 (h .inner) (getD words (host * s .factor + sub) 0) (getD steps (host * s .factor + sub) 0) v
 
 -- ---- what is asked for
+
+-- the powers are those of the amounts
+pub record Powered (s : Settings) (h : HostFrame) : Type 0 where
+  pub power0 : h .drive0 .power ≡ powerOf (s .slot0 .mode) (h .drive0 .amount)
+  pub power1 : h .drive1 .power ≡ powerOf (s .slot1 .mode) (h .drive1 .amount)
+
+-- what drives a lane's slots where they have no modulation
+pub record Stills (s : Settings) (lane : ℕ) (base0 base1 : List Float) (still0 still1 : Drive) : Type 0 where
+  pub first : still0 ≡ driveAt (s .slot0 .mode) (getD base0 lane nan) none 0
+  pub second : still1 ≡ driveAt (s .slot1 .mode) (getD base1 lane nan) none 0
 
 -- a host frame of a lane
 pub record Hosted (s : Settings) (lane host base0 base1 mod0 mod1 inner : ℕ) : Type 0 where

@@ -45,10 +45,16 @@ pub struct Stepped {
     pub voice: Voice,
 }
 
-// What holds for all rendered frames of a host frame: the slots' amounts, and the prepared slope.
+// What drives a slot at a host frame: its amount, and its power at that amount.
+pub struct Drive {
+    pub amount: f32,
+    pub power: f32,
+}
+
+// What holds for all rendered frames of a host frame: what drives the slots, and the prepared slope.
 pub struct HostFrame {
-    pub amount0: f32,
-    pub amount1: f32,
+    pub drive0: Drive,
+    pub drive1: Drive,
     pub inner: f32,
 }
 

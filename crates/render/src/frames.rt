@@ -1,23 +1,22 @@
 // The rendered frames of one lane.
 use crate::cells::BlockSettings;
+use crate::cells::Drive;
 use crate::cells::HostFrame;
 use crate::cells::Raw;
 use crate::cells::Stepped;
 use crate::cells::Voice;
+use crate::drives::drive_at;
+use crate::drives::still_drive;
 use crate::plain::is_plain;
 use crate::plain::read_lane;
-use controls::amount_at;
 use controls::heard_at;
 use grid::place;
-use phase::read_cycle;
-use phase::read_sum;
 use shaper::Range;
 use shaper::Settings;
 use voice::Control;
 use voice::fm_scale;
-use voice::in_phase;
-use voice::reads_of;
 use voice::shape_of;
+use voice::sum_of;
 ghost use mathlib.Core.Path.{_≡_};
 ghost use Prim.Native.Nat.{_*_, _<_, _≤_};
 ghost use lib.ListN.{length, getD};
@@ -25,14 +24,14 @@ ghost use lib.Ieee.{nan};
 ghost use Rattle.floats.specs.Exp2.{entries};
 ghost use Rattle.grid.specs.Cells.{column};
 ghost use Rattle.limits.specs.Lines.{spansOf};
+ghost use Rattle.voice.specs.Power.{powerOf};
 ghost use Rattle.controls.specs.Controls.{lentOf};
 ghost use Rattle.render.specs.Lane.{inputsOf};
 ghost use Rattle.render.specs.Share.{firstFrame, frameCount};
 ghost use Rattle.render.specs.Promises.{lent, Limits, Readable};
-ghost use Rattle.render.specs.Frames.{rawOf, frameOf, hostAt, frameAt, Hosted, Framed, Cut, Room, Frames, Ran};
+ghost use Rattle.render.specs.Frames.{rawOf, frameOf, hostAt, frameAt, Powered, Stills, Hosted, Framed, Cut, Room, Frames, Ran};
 
-// What a lane reads of the cycle, and the FM carry after it. Without a slot in the phase stage that is
-// one read at the running word, and no list is made.
+// What a lane reads of the cycle, and the FM carry after it.
 fn raw_of(
     powers: &[u32; 257],
     s: Settings,
@@ -41,6 +40,8 @@ fn raw_of(
     cycle: &[f32],
     control0: Control,
     control1: Control,
+    power0: f32,
+    power1: f32,
     inner: f32,
     word: u32,
     step: u32,
@@ -48,39 +49,35 @@ fn raw_of(
     fm1: f32,
 ) -> Raw
     requires { ⌜ now powers ≡ entries ⌝ ∗ ⌜ 1025 ≤ length (now curve) ⌝ ∗ ⌜ 2048 ≤ length (now cycle) ⌝ }
+    requires { ⌜ power0 ≡ powerOf (s .slot0 .mode) (control0 .amount) ⌝ ∗ ⌜ power1 ≡ powerOf (s .slot1 .mode) (control1 .amount) ⌝ }
     ensures { λ r. ⌜ r ≡ rawOf s scale (now (curve .entry)) (now (cycle .entry)) control0 control1 inner word step fm0 fm1 ⌝ }
 {
+    let numbers = s.numbers;
     let slot0 = s.slot0;
     let slot1 = s.slot1;
-    if !(in_phase(slot0.mode) | in_phase(slot1.mode)) {
-        return Raw {
-            x: read_cycle(cycle, word),
-            fm0: fm0,
-            fm1: fm1,
-        };
-    }
-    let numbers = s.numbers;
-    let reads = reads_of(
+    let sum = sum_of(
         powers,
         numbers,
         curve,
+        cycle,
         slot0,
         slot1,
         s.factor,
         scale,
         control0,
         control1,
+        power0,
+        power1,
         inner,
         word,
         step,
         fm0,
         fm1,
     );
-    let list = reads.reads;
     Raw {
-        x: read_sum(cycle, list),
-        fm0: reads.fm0,
-        fm1: reads.fm1,
+        x: sum.x,
+        fm0: sum.fm0,
+        fm1: sum.fm1,
     }
 }
 
@@ -93,12 +90,15 @@ fn frame_of(
     cycle: &[f32],
     control0: Control,
     control1: Control,
+    power0: f32,
+    power1: f32,
     inner: f32,
     word: u32,
     step: u32,
     v: Voice,
 ) -> Stepped
     requires { ⌜ now powers ≡ entries ⌝ ∗ ⌜ 1025 ≤ length (now curve) ⌝ ∗ ⌜ 2048 ≤ length (now cycle) ⌝ }
+    requires { ⌜ power0 ≡ powerOf (s .slot0 .mode) (control0 .amount) ⌝ ∗ ⌜ power1 ≡ powerOf (s .slot1 .mode) (control1 .amount) ⌝ }
     ensures { λ r. ⌜ r ≡ frameOf s scale (now (curve .entry)) (now (cycle .entry)) control0 control1 inner word step v ⌝ }
 {
     let numbers = s.numbers;
@@ -112,6 +112,8 @@ fn frame_of(
         cycle,
         control0,
         control1,
+        power0,
+        power1,
         inner,
         word,
         step,
@@ -128,6 +130,8 @@ fn frame_of(
         slot1,
         control0,
         control1,
+        power0,
+        power1,
         step,
         x,
         before0,
@@ -151,28 +155,54 @@ fn frame_of(
 
 // What holds for all rendered frames of host frame `host`.
 fn load_host(
+    powers: &[u32; 257],
     s: Settings,
     lane: usize,
     host: usize,
+    still0: Drive,
+    still1: Drive,
     base0: &[f32],
     base1: &[f32],
     mod0: &[f32],
     mod1: &[f32],
     inner: &[f32],
 ) -> HostFrame
+    requires { ⌜ now powers ≡ entries ⌝ ∗ ⌜ Stills s lane (now base0) (now base1) still0 still1 ⌝ }
     requires { ⌜ Hosted s lane host (length (now base0)) (length (now base1)) (length (now mod0)) (length (now mod1)) (length (now inner)) ⌝ }
-    ensures { λ r. ⌜ r ≡ hostAt (getD (now (base0 .entry)) lane nan) (getD (now (base1 .entry)) lane nan)
+    ensures { λ r. ⌜ r ≡ hostAt s (getD (now (base0 .entry)) lane nan) (getD (now (base1 .entry)) lane nan)
         (lentOf (s .lanes) lane (s .frames) (now (mod0 .entry))) (lentOf (s .lanes) lane (s .frames) (now (mod1 .entry)))
         (column nan (s .lanes) lane (spansOf (s .frames)) (now (inner .entry))) host ⌝ }
 {
     let n = s.lanes as usize;
     let frames = s.frames as usize;
-    let amount0 = amount_at(base0[lane], mod0, frames, n, lane, host);
-    let amount1 = amount_at(base1[lane], mod1, frames, n, lane, host);
+    let slot0 = s.slot0;
+    let slot1 = s.slot1;
+    let drive0 = drive_at(
+        powers,
+        slot0.mode,
+        base0[lane],
+        still0,
+        mod0,
+        frames,
+        n,
+        lane,
+        host,
+    );
+    let drive1 = drive_at(
+        powers,
+        slot1.mode,
+        base1[lane],
+        still1,
+        mod1,
+        frames,
+        n,
+        lane,
+        host,
+    );
     let at = place(host / 32, n, lane);
     HostFrame {
-        amount0: amount0,
-        amount1: amount1,
+        drive0: drive0,
+        drive1: drive1,
         inner: inner[at],
     }
 }
@@ -194,7 +224,7 @@ fn frame_at(
     words: &[u32],
     steps: &[u32],
 ) -> Stepped
-    requires { ⌜ now powers ≡ entries ⌝ ∗ ⌜ Framed s lane host sub
+    requires { ⌜ now powers ≡ entries ⌝ ∗ ⌜ Powered s h ⌝ ∗ ⌜ Framed s lane host sub
         (length (now source0)) (length (now source1)) (length (now curve)) (length (now cycle)) (length (now words)) (length (now steps)) ⌝ }
     ensures { λ r. ⌜ r ≡ frameAt s scale h
         (lentOf (s .lanes) lane (s .frames) (now (source0 .entry))) (lentOf (s .lanes) lane (s .frames) (now (source1 .entry)))
@@ -229,13 +259,15 @@ fn frame_at(
         host,
         sub,
     );
+    let drive0 = h.drive0;
+    let drive1 = h.drive1;
     let control0 = Control {
-        amount: h.amount0,
+        amount: drive0.amount,
         sourced: source0.len() != 0,
         source: heard0,
     };
     let control1 = Control {
-        amount: h.amount1,
+        amount: drive1.amount,
         sourced: source1.len() != 0,
         source: heard1,
     };
@@ -248,6 +280,8 @@ fn frame_at(
         cycle,
         control0,
         control1,
+        drive0.power,
+        drive1.power,
         h.inner,
         words[at],
         steps[at],
@@ -264,6 +298,8 @@ fn render_host(
     lane: usize,
     host: usize,
     row: usize,
+    still0: Drive,
+    still1: Drive,
     v: Voice,
     base0: &[f32],
     base1: &[f32],
@@ -279,13 +315,26 @@ fn render_host(
     work: &mut [f32],
 ) -> Voice
     requires { ⌜ now powers ≡ entries ⌝ ∗ ⌜ Cut (length (now curve)) (length (now cycle)) ⌝ ∗ ⌜ Room s lane host row (length (now work)) ⌝ }
+    requires { ⌜ Stills s lane (now base0) (now base1) still0 still1 ⌝ }
     requires { ⌜ Readable s (lent (now base0) (now base1) (now mod0) (now mod1) (now source0) (now source1) (now curve) (now cycle) (now words) (now steps) (now inner)) ⌝ }
     ensures { λ e. ⌜ Ran s scale
         (inputsOf s (lent (now (base0 .entry)) (now (base1 .entry)) (now (mod0 .entry)) (now (mod1 .entry)) (now (source0 .entry)) (now (source1 .entry)) (now (curve .entry)) (now (cycle .entry)) (now (words .entry)) (now (steps .entry)) (now (inner .entry))) lane)
         lane (host * s .factor) row (s .factor) v e (now (work .entry)) (now (work .exit)) ⌝ }
 {
     let n = s.lanes as usize;
-    let h = load_host(s, lane, host, base0, base1, mod0, mod1, inner);
+    let h = load_host(
+        powers,
+        s,
+        lane,
+        host,
+        still0,
+        still1,
+        base0,
+        base1,
+        mod0,
+        mod1,
+        inner,
+    );
     let mut state = v;
     for sub in 0..s.factor {
         let out = frame_at(
@@ -319,6 +368,8 @@ fn render_hosts(
     b: BlockSettings,
     r: Range,
     lane: usize,
+    still0: Drive,
+    still1: Drive,
     v: Voice,
     base0: &[f32],
     base1: &[f32],
@@ -334,6 +385,7 @@ fn render_hosts(
     work: &mut [f32],
 ) -> Voice
     requires { ⌜ now powers ≡ entries ⌝ ∗ ⌜ lane < b .shaper .lanes ⌝ ∗ ⌜ Limits b r ⌝ ∗ ⌜ Cut (length (now curve)) (length (now cycle)) ⌝ }
+    requires { ⌜ Stills (b .shaper) lane (now base0) (now base1) still0 still1 ⌝ }
     requires { ⌜ Readable (b .shaper) (lent (now base0) (now base1) (now mod0) (now mod1) (now source0) (now source1) (now curve) (now cycle) (now words) (now steps) (now inner)) ⌝ }
     requires { ⌜ r .count * b .shaper .factor * b .shaper .lanes ≤ length (now work) ⌝ }
     ensures { λ e. ⌜ Frames b
@@ -354,6 +406,8 @@ fn render_hosts(
             lane,
             first + k,
             k * factor,
+            still0,
+            still1,
             state,
             base0,
             base1,
@@ -410,11 +464,15 @@ pub fn render_lane(
         read_lane(first * factor, count * factor, n, lane, cycle, words, work);
         return v;
     }
+    let still0 = still_drive(powers, slot0.mode, base0[lane]);
+    let still1 = still_drive(powers, slot1.mode, base1[lane]);
     render_hosts(
         powers,
         b,
         r,
         lane,
+        still0,
+        still1,
         v,
         base0,
         base1,

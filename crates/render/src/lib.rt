@@ -1,10 +1,12 @@
 // One lane's whole share of a range of a block: `render_oversampled` of mod.rs, lane by lane.
 pub mod cells;
+pub mod drives;
 pub mod frames;
 pub mod lane;
 pub mod plain;
 
 pub use cells::BlockSettings;
+pub use cells::Drive;
 pub use cells::HostFrame;
 pub use cells::Stepped;
 pub use cells::Voice;

@@ -6,6 +6,7 @@ use grid::place;
 use voice::Reads;
 use voice::Shaped;
 use voice::fm_scale;
+use voice::power_of;
 use voice::reads_of;
 use voice::shape_of;
 use wave::Svf;
@@ -87,6 +88,8 @@ pub fn reads_at(
         sub,
     );
     let at = place(host / 32, n, lane);
+    let power0 = power_of(powers, slot0.mode, control0.amount);
+    let power1 = power_of(powers, slot1.mode, control1.amount);
     reads_of(
         powers,
         numbers,
@@ -97,6 +100,8 @@ pub fn reads_at(
         scale,
         control0,
         control1,
+        power0,
+        power1,
         inner[at],
         word,
         step,
@@ -161,6 +166,8 @@ pub fn shape_at(
         host,
         sub,
     );
+    let power0 = power_of(powers, slot0.mode, control0.amount);
+    let power1 = power_of(powers, slot1.mode, control1.amount);
     shape_of(
         powers,
         numbers,
@@ -168,6 +175,8 @@ pub fn shape_at(
         slot1,
         control0,
         control1,
+        power0,
+        power1,
         step,
         x,
         pairs0,

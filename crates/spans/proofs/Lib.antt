@@ -4,3 +4,4 @@ pub mod FilledLaws
 pub mod RefusalLaws
 pub mod FasterLaws
 pub mod PreparedLaws
+pub mod Nothing

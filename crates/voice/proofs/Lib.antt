@@ -3,3 +3,5 @@ pub mod Counts
 pub mod NotOwn
 pub mod Offsets
 pub mod NotWave
+pub mod Powers
+pub mod SumRunLaws

@@ -1,2 +1,4 @@
 pub mod PhaseRun
 pub mod WaveRun
+pub mod Power
+pub mod SumRun

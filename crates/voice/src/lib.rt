@@ -2,6 +2,8 @@
 // with the lane's state in and out by value.
 pub mod control;
 pub mod phase_run;
+pub mod power;
+pub mod sum_run;
 pub mod wave_run;
 
 pub use control::Control;
@@ -11,6 +13,9 @@ pub use phase_run::fm_scale;
 pub use phase_run::in_phase;
 pub use phase_run::is_own;
 pub use phase_run::reads_of;
+pub use power::power_of;
+pub use sum_run::Summed;
+pub use sum_run::sum_of;
 pub use wave_run::Shaped;
 pub use wave_run::shape_of;
 pub use wave_run::tracks;

@@ -19,6 +19,7 @@ ghost use Prim.Native.Nat.{_<_, _≤_};
 ghost use lib.ListN.{length};
 ghost use Rattle.floats.specs.Exp2.{entries};
 ghost use Rattle.modes.specs.Facts.{thruZero, exponential, linear};
+ghost use Rattle.voice.specs.Power.{powerOf};
 ghost use Rattle.voice.specs.PhaseRun.{inPhase, isOwn, fmExponential, fmScale, fmCycles, carriedOn, fmOffset, offsetOf, movedOf, mapSlot, listOf, readsOf};
 
 // FM's scale: the deviation at amount 1 and source 1.
@@ -28,7 +29,7 @@ const FM_MAX_HZ: f32 = 83_750.0;
 const PD_MAX_CYCLES: f32 = 0.5;
 
 // The width of an edge, in host samples.
-const TRANSITION: f32 = 2.0;
+pub const TRANSITION: f32 = 2.0;
 
 // The words that a slot adds to the read, and its FM carry after it.
 pub struct Offset {
@@ -130,7 +131,7 @@ fn fm_linear(a: f32, s: f32, scale: f32, increment: f32, carry: f32) -> Offset
 }
 
 // The offset of a slot that has a source: FM carries a running one, phase distortion's is direct.
-fn offset_of(
+pub fn offset_of(
     powers: &[u32; 257],
     mode: u32,
     control: Control,
@@ -180,19 +181,19 @@ fn move_on(
 }
 
 fn map_slot(
-    powers: &[u32; 257],
     numbers: Numbers,
     curve: &[f32],
     slot: Slot,
     control: Control,
+    power: f32,
     half: f32,
     list: ReadList,
 ) -> ReadList
-    requires { ⌜ now powers ≡ entries ⌝ ∗ ⌜ 1024 < length (now curve) ⌝ ∗ ⌜ list .count ≤ 4 ⌝ }
+    requires { ⌜ power ≡ powerOf (slot .mode) (control .amount) ⌝ ∗ ⌜ 1024 < length (now curve) ⌝ ∗ ⌜ list .count ≤ 4 ⌝ }
     ensures { λ r. ⌜ r ≡ mapSlot (numbers .sin) (numbers .atan) (now (curve .entry)) slot control half list ⌝ }
 {
     if in_phase(slot.mode) {
-        return phase::apply(powers, numbers, curve, slot, control.amount, half, list);
+        return phase::apply_with(numbers, curve, slot, control.amount, power, half, list);
     }
     list
 }
@@ -208,6 +209,8 @@ fn list_of(
     scale: f32,
     control0: Control,
     control1: Control,
+    power0: f32,
+    power1: f32,
     inner: f32,
     word: u32,
     increment: f32,
@@ -215,14 +218,15 @@ fn list_of(
     fm1: f32,
 ) -> Reads
     requires { ⌜ now powers ≡ entries ⌝ ∗ ⌜ 1024 < length (now curve) ⌝ }
+    requires { ⌜ power0 ≡ powerOf (slot0 .mode) (control0 .amount) ⌝ ∗ ⌜ power1 ≡ powerOf (slot1 .mode) (control1 .amount) ⌝ }
     ensures { λ r. ⌜ r ≡ listOf (numbers .sin) (numbers .atan) (now (curve .entry)) slot0 slot1 factor scale control0 control1 inner word increment fm0 fm1 ⌝ }
     ensures { λ r. ⌜ r .reads .count ≤ 4 ⌝ }
 {
     // TRANSITION is in host samples; the increment is for a rendered one.
     let half = increment * (TRANSITION * 0.5 * nearest_u32(factor));
     let start = ReadList::start(word);
-    let list1 = map_slot(powers, numbers, curve, slot1, control1, half, start);
-    let list0 = map_slot(powers, numbers, curve, slot0, control0, half * inner, list1);
+    let list1 = map_slot(numbers, curve, slot1, control1, power1, half, start);
+    let list0 = map_slot(numbers, curve, slot0, control0, power0, half * inner, list1);
     let moved1 = move_on(powers, slot1.mode, control1, scale, increment, list0, fm1);
     let moved0 = move_on(
         powers,
@@ -240,8 +244,8 @@ fn list_of(
     }
 }
 
-// The read list of a lane at one rendered frame: `inner` is slot 1's steepest slope as prepared, `fm0`
-// and `fm1` the FM carry of slots 0 and 1.
+// The read list of a lane at one rendered frame: `power0` and `power1` are the slots' powers, `inner` is
+// slot 1's steepest slope as prepared, `fm0` and `fm1` the FM carry of slots 0 and 1.
 pub fn reads_of(
     powers: &[u32; 257],
     numbers: Numbers,
@@ -252,6 +256,8 @@ pub fn reads_of(
     scale: f32,
     control0: Control,
     control1: Control,
+    power0: f32,
+    power1: f32,
     inner: f32,
     word: u32,
     step: u32,
@@ -259,6 +265,7 @@ pub fn reads_of(
     fm1: f32,
 ) -> Reads
     requires { ⌜ now powers ≡ entries ⌝ ∗ ⌜ 1024 < length (now curve) ⌝ }
+    requires { ⌜ power0 ≡ powerOf (slot0 .mode) (control0 .amount) ⌝ ∗ ⌜ power1 ≡ powerOf (slot1 .mode) (control1 .amount) ⌝ }
     ensures { λ r. ⌜ r ≡ readsOf (numbers .sin) (numbers .atan) (now (curve .entry)) slot0 slot1 factor scale control0 control1 inner word step fm0 fm1 ⌝ }
     ensures { λ r. ⌜ r .reads .count ≤ 4 ⌝ }
 {
@@ -274,6 +281,8 @@ pub fn reads_of(
             scale,
             control0,
             control1,
+            power0,
+            power1,
             inner,
             word,
             increment,

@@ -9,6 +9,8 @@ use wave::Svf;
 use wave::in_wave;
 ghost use mathlib.Core.Path.{_≡_};
 ghost use Rattle.floats.specs.Exp2.{entries};
+ghost use Rattle.wave.specs.Slot.{wavePower};
+ghost use Rattle.voice.specs.Power.{powerOf};
 ghost use Rattle.voice.specs.WaveRun.{tracks, slotOf, shapedOf};
 
 // The sample that goes out, and the state after it.
@@ -31,17 +33,18 @@ fn slot_of(
     numbers: Numbers,
     slot: Slot,
     control: Control,
+    power: f32,
     increment: f32,
     x: f32,
     state: Svf,
 ) -> Filtered
-    requires { ⌜ now powers ≡ entries ⌝ }
+    requires { ⌜ now powers ≡ entries ⌝ ∗ ⌜ power ≡ wavePower (slot .mode) (control .amount) ⌝ }
     ensures { λ r. ⌜ r ≡ slotOf (numbers .sin) slot control increment x state ⌝ }
 {
-    let setting = wave::setting_of(
-        powers,
+    let setting = wave::setting_with(
         slot.mode,
         control.amount,
+        power,
         slot.character,
         control.sourced,
         control.source,
@@ -56,20 +59,22 @@ fn slot_at(
     numbers: Numbers,
     slot: Slot,
     control: Control,
+    power: f32,
     increment: f32,
     x: f32,
     state: Svf,
 ) -> Filtered
-    requires { ⌜ now powers ≡ entries ⌝ }
+    requires { ⌜ now powers ≡ entries ⌝ ∗ ⌜ power ≡ powerOf (slot .mode) (control .amount) ⌝ }
     ensures { λ r. ⌜ r ≡ slotOf (numbers .sin) slot control increment x state ⌝ }
 {
     if in_wave(slot.mode) {
-        return slot_of(powers, numbers, slot, control, increment, x, state);
+        return slot_of(powers, numbers, slot, control, power, increment, x, state);
     }
     Filtered { y: x, state: state }
 }
 
-// The sample `x` of a lane at one rendered frame, shaped by slot 0 and then slot 1.
+// The sample `x` of a lane at one rendered frame, shaped by slot 0 and then slot 1, whose powers are
+// `power0` and `power1`.
 pub fn shape_of(
     powers: &[u32; 257],
     numbers: Numbers,
@@ -77,13 +82,15 @@ pub fn shape_of(
     slot1: Slot,
     control0: Control,
     control1: Control,
+    power0: f32,
+    power1: f32,
     step: u32,
     x: f32,
     pairs0: Svf,
     pairs1: Svf,
     last: f32,
 ) -> Shaped
-    requires { ⌜ now powers ≡ entries ⌝ }
+    requires { ⌜ now powers ≡ entries ⌝ ∗ ⌜ power0 ≡ powerOf (slot0 .mode) (control0 .amount) ⌝ ∗ ⌜ power1 ≡ powerOf (slot1 .mode) (control1 .amount) ⌝ }
     ensures { λ r. ⌜ r ≡ shapedOf (numbers .sin) slot0 slot1 control0 control1 step x pairs0 pairs1 last ⌝ }
 {
     let increment = signed(step);
@@ -92,8 +99,26 @@ pub fn shape_of(
     } else {
         last
     };
-    let first = slot_at(powers, numbers, slot0, control0, increment, x, pairs0);
-    let second = slot_at(powers, numbers, slot1, control1, increment, first.y, pairs1);
+    let first = slot_at(
+        powers,
+        numbers,
+        slot0,
+        control0,
+        power0,
+        increment,
+        x,
+        pairs0,
+    );
+    let second = slot_at(
+        powers,
+        numbers,
+        slot1,
+        control1,
+        power1,
+        increment,
+        first.y,
+        pairs1,
+    );
     let state0 = first.state;
     let state1 = second.state;
     Shaped {

@@ -1,2 +1,3 @@
 pub mod Settings
 pub mod Drives
+pub mod Powers

@@ -62,6 +62,10 @@ waveSetting mode a character sourced source = if isFilter mode then filterSettin
 unfoldable pub settingOf : ℕ → Float → Float → Bool → Float → Setting
 settingOf mode a character sourced source = if inWave mode then waveSetting mode a character sourced source else Setting.Nothing
 
+-- what of a slot's setting goes by its mode and its amount alone: a filter's harmonic, a curve's drive; 1 for AM and Ring
+unfoldable pub wavePower : ℕ → Float → Float
+wavePower mode a = if isFilter mode then cutoffHarmonic mode a else (if isModulated mode then 1f else gainOf mode a)
+
 -- x * (1.0 - a * 0.5 * (1.0 - s))
 unfoldable pub amOf : Float → Float → Float → Float
 amOf a s x = x ⊗ (1f ⊖ a ⊗ half ⊗ (1f ⊖ s))

@@ -11,7 +11,7 @@ use modes::ModulatedFact;
 use modes::StageFact;
 ghost use mathlib.Core.Path.{_≡_};
 ghost use Rattle.floats.specs.Exp2.{entries};
-ghost use Rattle.wave.specs.Slot.{inWave, isFilter, isModulated, filterSetting, curveSetting, settingOf, amOf, ringOf, levelOf, shapeOf};
+ghost use Rattle.wave.specs.Slot.{inWave, isFilter, isModulated, settingOf, wavePower, amOf, ringOf, levelOf, shapeOf};
 
 // What a slot does to one sample: nothing, a filter with harmonic and damping, a curve with amount and
 // drive, a level with amount and source.
@@ -54,24 +54,51 @@ pub fn is_modulated(mode: u32) -> bool
     }
 }
 
-fn filter_setting(powers: &[u32; 257], mode: u32, a: f32, character: f32) -> Setting
+// The power of two in a slot's setting, which goes by the mode and the amount alone, so that a render
+// works it out once for many samples: a filter's harmonic, a curve's drive, and 1 for AM and Ring.
+pub fn wave_power(powers: &[u32; 257], mode: u32, a: f32) -> f32
     requires { ⌜ now powers ≡ entries ⌝ }
-    ensures { λ r. ⌜ r ≡ filterSetting mode a character ⌝ }
+    ensures { λ r. ⌜ r ≡ wavePower mode a ⌝ }
 {
-    let harmonic = cutoff_harmonic(powers, mode, a);
-    Setting::Filter(harmonic, damping(character))
+    if is_filter(mode) {
+        return cutoff_harmonic(powers, mode, a);
+    }
+    if is_modulated(mode) {
+        return 1.0;
+    }
+    gain(powers, mode, a)
 }
 
-fn curve_setting(powers: &[u32; 257], mode: u32, a: f32) -> Setting
-    requires { ⌜ now powers ≡ entries ⌝ }
-    ensures { λ r. ⌜ r ≡ curveSetting mode a ⌝ }
+// The setting of a slot at amount `a` (0 to 1), whose power is `power`; a slot outside the wave stage has
+// none. AM and Ring take `source`, the number that they read; where the slot has no source (`sourced` is
+// false) they do nothing.
+pub fn setting_with(
+    mode: u32,
+    a: f32,
+    power: f32,
+    character: f32,
+    sourced: bool,
+    source: f32,
+) -> Setting
+    requires { ⌜ power ≡ wavePower mode a ⌝ }
+    ensures { λ r. ⌜ r ≡ settingOf mode a character sourced source ⌝ }
 {
-    Setting::Curve(a, gain(powers, mode, a))
+    if in_wave(mode) {
+        if is_filter(mode) {
+            return Setting::Filter(power, damping(character));
+        }
+        if is_modulated(mode) {
+            if sourced {
+                return Setting::Level(a, source);
+            }
+            return Setting::Nothing;
+        }
+        return Setting::Curve(a, power);
+    }
+    Setting::Nothing
 }
 
-// The setting of a slot at amount `a` (0 to 1); a slot outside the wave stage has none. AM and Ring
-// take `source`, the number that they read; where the slot has no source (`sourced` is false) they do
-// nothing.
+// The same, with the power worked out.
 pub fn setting_of(
     powers: &[u32; 257],
     mode: u32,
@@ -83,19 +110,8 @@ pub fn setting_of(
     requires { ⌜ now powers ≡ entries ⌝ }
     ensures { λ r. ⌜ r ≡ settingOf mode a character sourced source ⌝ }
 {
-    if in_wave(mode) {
-        if is_filter(mode) {
-            return filter_setting(powers, mode, a, character);
-        }
-        if is_modulated(mode) {
-            if sourced {
-                return Setting::Level(a, source);
-            }
-            return Setting::Nothing;
-        }
-        return curve_setting(powers, mode, a);
-    }
-    Setting::Nothing
+    let power = wave_power(powers, mode, a);
+    setting_with(mode, a, power, character, sourced, source)
 }
 
 fn am(a: f32, s: f32, x: f32) -> f32

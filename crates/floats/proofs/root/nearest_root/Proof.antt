@@ -12,6 +12,4 @@ returns : tie.Need-returns
 returns c = let s = c .before .before in nearest-root (s .args .n) (s .args .near) (s .pre .0 .0) (s .pre .0 .1) (c .before .if1 .taken) (c .if2 .taken)
 
 pub nearest-root-spec : {M : Type 1} → statement M
-nearest-root-spec =
-    tie.close
-    (tie.spec mul-if1 (λ c. search needs) (λ c. search needs) (λ c. search needs) returns (λ c κs. search needs) (λ c. search needs))
+nearest-root-spec = tie.close (tie.spec mul-if1 (λ c. search needs) (λ c. search needs) (λ c. search needs) returns (λ c κs. search needs) (λ c. search needs))

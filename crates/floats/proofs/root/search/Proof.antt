@@ -40,16 +40,19 @@ mul-loop : tie.Need-mul-loop Inv-loop μ-loop Inv-loop2 μ-loop2
 mul-loop c = omega (arith, square-fits (c .loop .r) (c .loop .inv))
 
 sub-r : tie.Need-sub-r Inv-loop μ-loop Inv-loop2 μ-loop2
-sub-r c = over _ _ (c .before .before .pre .0 .0) (c .loop-test .taken)
+sub-r c = over (c .before .before .args .n) (c .before .loop .r) (c .before .before .pre .0 .0) (omega (arith, c .loop-test .taken))
 
 loop-less : tie.Need-loop-less Inv-loop μ-loop Inv-loop2 μ-loop2
-loop-less c = let h = over _ _ (c .before .before .pre .0 .0) (c .loop-test .taken) in omega arith
+loop-less c = let h = over (c .before .before .args .n) (c .before .loop .r) (c .before .before .pre .0 .0) (omega (arith, c .loop-test .taken)) in omega arith
 
 loop-again : tie.Need-loop-again Inv-loop μ-loop Inv-loop2 μ-loop2
 loop-again c = omega (arith, c .before .loop .inv)
 
 loop2-holds : tie.Need-loop2-holds Inv-loop μ-loop Inv-loop2 μ-loop2
-loop2-holds c = (root-under _ _ (c .before .before .pre .0 .1) (c .loop-test .left), c .loop-test .left)
+loop2-holds c =
+    let s = c .before .before in
+    let h : c .before .loop .r * c .before .loop .r < s .args .n + c .before .loop .r = omega (arith, c .loop-test .left) in
+    (root-under (s .args .n) (c .before .loop .r) (s .pre .0 .1) h, h)
 
 mul-loop2 : tie.Need-mul-loop2 Inv-loop μ-loop Inv-loop2 μ-loop2
 mul-loop2 c = omega (arith, square-fits (c .loop2 .r) (omega (arith, c .loop2 .inv .0)))

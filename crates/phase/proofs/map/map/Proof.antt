@@ -3,8 +3,15 @@ use borrow.Author.Needs.{needs}
 use Rattle.modes.specs.Choice.{caseOf}
 use Rattle.modes.proofs.Choice.{miss}
 use Rattle.phase.specs.Map.{mapOf}
+use Rattle.phase.proofs.Powers.{sync-power, quantise-power}
 use Rattle.phase.proofs.map.map.Statement.{statement}
 use Rattle.phase.proofs.map.map.Tie as tie
+
+sync-requires : tie.Need-sync-requires
+sync-requires c κs = sync-power _ _ _ (c .match .keys1) (c .before .before .pre .0)
+
+quantise-requires : tie.Need-quantise-requires
+quantise-requires c κs = quantise-power _ _ _ (c .match .keys15) (c .before .before .pre .0)
 
 returns : tie.Need-returns
 unfolding mapOf caseOf
@@ -78,6 +85,7 @@ pub map-spec : {M : Type 1} → statement M
 map-spec =
     tie.close
     (tie.spec
+    sync-requires
     (λ c κs. search needs)
     (λ c κs. search needs)
     (λ c κs. search needs)
@@ -91,8 +99,7 @@ map-spec =
     (λ c κs. search needs)
     (λ c κs. search needs)
     (λ c κs. search needs)
-    (λ c κs. search needs)
-    (λ c κs. search needs)
+    quantise-requires
     (λ c κs. search needs)
     (λ c κs. search needs)
     returns

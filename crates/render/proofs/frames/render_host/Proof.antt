@@ -9,7 +9,7 @@ use Rattle.render.specs.Lane.{Lent, inputsOf}
 use Rattle.render.specs.Promises.{lent}
 use Rattle.render.specs.Frames.{Ran}
 use Rattle.render.proofs.InputLaws.{room-in, room-near, framed, hosted}
-use Rattle.render.proofs.FrameLaws.{ran-none, ran-more, ran-done}
+use Rattle.render.proofs.FrameLaws.{powered, ran-none, ran-more, ran-done}
 use Rattle.render.proofs.frames.render_host.Statement.{statement}
 use Rattle.render.proofs.frames.render_host.Tie as tie
 
@@ -33,7 +33,9 @@ sub-less : (c : tie.In-loop Inv-loop μ-loop) → c .before .loop .sub < start (
 sub-less c = omega (arith, c .before .loop .inv .1, c .loop-test .taken)
 
 load-host-requires : tie.Need-load-host-requires Inv-loop μ-loop
-load-host-requires c κs = let s = c .before .before .before .before .before .before .before .before .before .before .before .before .before in hosted {l = lends s} (s .pre .1 .1 .0 .spot) (s .pre .1 .1 .1)
+load-host-requires c κs =
+    let s = c .before .before .before .before .before .before .before .before .before .before .before .before .before in
+    (s .pre .0, (s .pre .1 .1 .1 .0, hosted {l = lends s} (s .pre .1 .1 .0 .spot) (s .pre .1 .1 .1 .1)))
 
 loop-holds : tie.Need-loop-holds Inv-loop μ-loop
 loop-holds c =
@@ -43,7 +45,7 @@ loop-holds c =
 frame-at-requires : tie.Need-frame-at-requires Inv-loop μ-loop
 frame-at-requires c κs =
     let s = start (c .before) in
-    (s .pre .0, framed (s .pre .1 .1 .0) (c .before .loop .sub) (sub-less c) {l = lends s} (s .pre .1 .1 .1))
+    (s .pre .0, (powered _ (lends s) _ _ _ (c .before .before .load-host .ensures), framed (s .pre .1 .1 .0) (c .before .loop .sub) (sub-less c) {l = lends s} (s .pre .1 .1 .1 .1)))
 
 add-place : tie.Need-add-place Inv-loop μ-loop
 add-place c = let p = start (c .before .before) .pre .1 .1 .0 in omega arith

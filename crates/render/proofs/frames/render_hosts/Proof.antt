@@ -12,12 +12,12 @@ use Rattle.render.proofs.frames.render_hosts.Statement.{statement}
 use Rattle.render.proofs.frames.render_hosts.Tie as tie
 
 abbrev Inv-loop : tie.InvT-loop
-Inv-loop powers lane base0 base1 mod0 mod1 source0 source1 curve cycle words steps inner work₀ s factor first count scale state₀ k₀ work state k =
+Inv-loop powers lane still0 still1 base0 base1 mod0 mod1 source0 source1 curve cycle words steps inner work₀ s factor first count scale state₀ k₀ work state k =
     (k ≤ count)
     × Ran s scale (inputsOf s (lent base0 base1 mod0 mod1 source0 source1 curve cycle words steps inner) lane) lane (first * s .factor) 0 (k * s .factor) state₀ state work₀ work
 
 abbrev μ-loop : tie.MeasureT-loop
-μ-loop powers lane base0 base1 mod0 mod1 source0 source1 curve cycle words steps inner work₀ s factor first count scale state₀ k₀ work state k = count - k
+μ-loop powers lane still0 still1 base0 base1 mod0 mod1 source0 source1 curve cycle words steps inner work₀ s factor first count scale state₀ k₀ work state k = count - k
 
 abbrev start : tie.At-loop Inv-loop μ-loop → tie.Start Inv-loop μ-loop
 start c = c .before .before .before .before .before .before .before .before .before .before .before .before .before .before .before .before .before .before
@@ -49,7 +49,7 @@ render-host-requires : tie.Need-render-host-requires Inv-loop μ-loop
 render-host-requires c κs =
     let l = c .before .before in
     let p = start l .pre in
-    (p .0, (p .1 .1 .1 .0, (host-room (p .1 .1 .0) (l .loop .k) (c .before .loop-test .taken) (p .1 .0) (rw (so-far l .size) (p .1 .1 .1 .1 .1)), p .1 .1 .1 .1 .0)))
+    (p .0, (p .1 .1 .1 .0, (host-room (p .1 .1 .0) (l .loop .k) (c .before .loop-test .taken) (p .1 .0) (rw (so-far l .size) (p .1 .1 .1 .1 .1 .1)), (p .1 .1 .1 .1 .0, p .1 .1 .1 .1 .1 .0))))
 
 loop-again : tie.Need-loop-again Inv-loop μ-loop
 loop-again c =

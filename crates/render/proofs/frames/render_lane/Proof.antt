@@ -46,6 +46,24 @@ returns c =
     plain-frames (p .1 .1 .0) (lends s) _ (p .1 .0) (p .1 .1 .1 .1 .0) _ _ _ (p .1 .1 .1 .0)
     (neither _ _ (sym (c .before .before .before .before .before .before .before .before .before .is-plain .ensures) ∙ c .before .before .before .before .before .before .before .before .if1 .taken)) (search needs) (c .before .before .read-lane .ensures)
 
+-- the lane's cell of a base is there
+mul-still-drive : tie.Need-mul-still-drive
+mul-still-drive c = let p = c .before .before .before .before .before .before .before .before .before .before .before .before .before .before .before .before .before .pre in omega (arith, p .1 .0, p .1 .1 .0 .lanes)
+
+shared-slice-read-still-drive : tie.Need-shared-slice-read-still-drive
+shared-slice-read-still-drive c = let p = c .before .before .before .before .before .before .before .before .before .before .before .before .before .before .before .before .before .before .pre in omega (arith, p .1 .0, p .1 .1 .1 .1 .0 .base0)
+
+mul-still-drive-2 : tie.Need-mul-still-drive-2
+mul-still-drive-2 c = let p = c .before .before .before .before .before .before .before .before .before .before .before .before .before .before .before .before .before .before .before .pre in omega (arith, p .1 .0, p .1 .1 .0 .lanes)
+
+shared-slice-read-still-drive-2 : tie.Need-shared-slice-read-still-drive-2
+shared-slice-read-still-drive-2 c = let p = c .before .before .before .before .before .before .before .before .before .before .before .before .before .before .before .before .before .before .before .before .pre in omega (arith, p .1 .0, p .1 .1 .1 .1 .0 .base1)
+
+render-hosts-requires : tie.Need-render-hosts-requires
+render-hosts-requires c κs =
+    let p = c .before .before .before .before .before .before .before .before .before .before .before .before .before .before .before .before .before .before .before .before .before .before .pre in
+    (p .0, (p .1 .0, (p .1 .1 .0, (p .1 .1 .1 .0, (record { first = c .before .before .before .still-drive .ensures; second = c .before .still-drive2 .ensures }, (p .1 .1 .1 .1 .0, p .1 .1 .1 .1 .1))))))
+
 pub render-lane-spec : {M : Type 1} → statement M
 render-lane-spec =
     tie.close
@@ -60,6 +78,12 @@ render-lane-spec =
     read-lane-requires
     (λ c. search needs)
     returns
-    (λ c κs. search needs)
+    mul-still-drive
+    shared-slice-read-still-drive
+    (λ c κs. c .before .before .before .before .before .before .before .before .before .before .before .before .before .before .before .before .before .before .pre .0)
+    mul-still-drive-2
+    shared-slice-read-still-drive-2
+    (λ c κs. c .before .before .before .before .before .before .before .before .before .before .before .before .before .before .before .before .before .before .before .before .pre .0)
+    render-hosts-requires
     (λ c. search needs)
     (λ c. search needs))

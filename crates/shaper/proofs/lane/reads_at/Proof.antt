@@ -31,19 +31,19 @@ at-in c = subst (λ (i : ℕ). i < length (now (start c .args .inner))) (sym (c 
 
 reads-of-requires : tie.Need-reads-of-requires
 reads-of-requires c κs =
-    let s = start (c .before) in
-    (s .pre .0, table-held (now (s .args .curve)) (s .pre .1 .entries))
+    let s = start (c .before .before .before) in
+    (s .pre .0, (table-held (now (s .args .curve)) (s .pre .1 .entries), (c .before .before .power-of .ensures, c .before .power-of2 .ensures)))
 
 returns : tie.Need-returns
 unfolding readsAt control0At control1At
 returns c =
-    let s = start (c .before .before) in (
+    let s = start (c .before .before .before .before) in (
       rw (
-        given (c .before .before .before .before .before .fm-scale .ensures),
-        given (c .before .before .before .before .control-at .ensures),
-        given (c .before .before .before .control-at2 .ensures),
+        given (c .before .before .before .before .before .before .before .fm-scale .ensures),
+        given (c .before .before .before .before .before .before .control-at .ensures),
+        given (c .before .before .before .before .before .control-at2 .ensures),
         row-read _ _ _ _ _ (span-in _ _ (s .pre .1 .driven .spot .row)),
-        ← c .before .before .place .ensures,
+        ← c .before .before .before .before .place .ensures,
       ) (c .reads-of .ensures .0),
       c .reads-of .ensures .1,
     )
@@ -62,7 +62,9 @@ reads-at-spec =
     (λ c κs. search needs)
     control-at-requires-2
     place-requires
-    (λ c. omega (arith, c .place .ensures, span-small (start c .pre .1)))
-    (λ c. at-in (c .before))
+    (λ c κs. start c .pre .0)
+    (λ c κs. start (c .before) .pre .0)
+    (λ c. omega (arith, c .before .before .place .ensures, span-small (start (c .before .before) .pre .1)))
+    (λ c. at-in (c .before .before .before))
     reads-of-requires
     returns)

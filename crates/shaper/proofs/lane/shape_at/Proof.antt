@@ -7,7 +7,7 @@ use Rattle.shaper.proofs.lane.shape_at.Tie as tie
 
 returns : tie.Need-returns
 unfolding shapedAt control0At control1At
-returns c = rw (given (c .before .before .control-at .ensures), given (c .before .control-at2 .ensures)) (c .shape-of .ensures)
+returns c = rw (given (c .before .before .before .before .control-at .ensures), given (c .before .before .before .control-at2 .ensures)) (c .shape-of .ensures)
 
 pub shape-at-spec : {M : Type 1} → statement M
 shape-at-spec =
@@ -18,4 +18,6 @@ shape-at-spec =
     (λ c κs. search needs)
     (λ c κs. search needs)
     (λ c κs. c .before .before .before .before .before .before .before .before .before .before .before .before .before .pre .0)
+    (λ c κs. c .before .before .before .before .before .before .before .before .before .before .before .before .before .before .pre .0)
+    (λ c κs. (c .before .before .before .before .before .before .before .before .before .before .before .before .before .before .before .pre .0, (c .before .power-of .ensures, c .power-of2 .ensures)))
     returns)

@@ -1,0 +1,36 @@
+-- `wave::setting_with` meets its contract: each test is what its definition says. Assumes nothing.
+use borrow.Author.Needs.{needs}
+use mathlib.Core.Path.{sym, _∙_}
+use Rattle.floats.specs.Steps.{_>>=_, if_then_else_}
+use Rattle.wave.specs.Slot.{settingOf, filterSetting, curveSetting}
+use Rattle.wave.proofs.Powers.{filter-power, curve-power}
+use Rattle.wave.proofs.slots.setting_with.Statement.{statement}
+use Rattle.wave.proofs.slots.setting_with.Tie as tie
+
+returns : tie.Need-returns
+unfolding settingOf filterSetting if_then_else_ _>>=_
+returns c =
+    let filter = sym (c .before .before .is-filter .ensures) ∙ c .before .if2 .taken in
+    rw (← c .before .before .before .before .in-wave .ensures, c .before .before .before .if1 .taken, filter, c .damping .ensures, filter-power _ _ _ filter (c .before .before .before .before .before .pre))
+
+returns-2 : tie.Need-returns-2
+unfolding settingOf if_then_else_
+returns-2 c = rw (← c .before .before .before .before .before .before .in-wave .ensures, c .before .before .before .before .before .if1 .taken, ← c .before .before .before .before .is-filter .ensures, c .before .before .before .if2 .left, ← c .before .before .is-modulated .ensures, c .before .if3 .taken, c .if4 .taken)
+
+returns-3 : tie.Need-returns-3
+unfolding settingOf if_then_else_
+returns-3 c = rw (← c .before .before .before .before .before .before .in-wave .ensures, c .before .before .before .before .before .if1 .taken, ← c .before .before .before .before .is-filter .ensures, c .before .before .before .if2 .left, ← c .before .before .is-modulated .ensures, c .before .if3 .taken, c .if4 .left)
+
+returns-4 : tie.Need-returns-4
+unfolding settingOf curveSetting if_then_else_ _>>=_
+returns-4 c =
+    let filter = sym (c .before .before .before .is-filter .ensures) ∙ c .before .before .if2 .left in
+    let modulated = sym (c .before .is-modulated .ensures) ∙ c .if3 .left in
+    rw (← c .before .before .before .before .before .in-wave .ensures, c .before .before .before .before .if1 .taken, filter, modulated, curve-power _ _ _ filter modulated (c .before .before .before .before .before .before .pre))
+
+returns-5 : tie.Need-returns-5
+unfolding settingOf if_then_else_
+returns-5 c = rw (← c .before .in-wave .ensures, c .if1 .left)
+
+pub setting-with-spec : {M : Type 1} → statement M
+setting-with-spec = tie.close (tie.spec (λ c κs. search needs) (λ c κs. search needs) (λ c κs. search needs) returns (λ c κs. search needs) returns-2 returns-3 returns-4 returns-5)
