@@ -1,5 +1,5 @@
 -- A block run that changes nothing. Document 01: "Zero frames and zero active lanes are accepted and change nothing." Assumes nothing.
-use mathlib.Core.Path.{_≡_, refl, sym}
+use mathlib.Core.Path.{_≡_, sym}
 use mathlib.Core.Logic.{_⊎_, inl, inr}
 use native.Mathlib.Decide.{ℕ-discrete}
 use native.Mathlib.Omega.{arith}

@@ -1,9 +1,10 @@
 // Replays the oracle's stored answers (stdin, a line each) and prints how many of them the library
-// gives: "P of T". The lines are those of `leaf_vectors`, `phase_vectors`,
-// `wave_vectors`, `decimate_vectors`, `single_vectors` and `block_vectors` of oracle/programs, which has
-// their format.
+// gives, and of document 01's boundary values how many are kept: "P of T" in all. The lines are those of
+// `leaf_vectors`, `phase_vectors`, `wave_vectors`, `decimate_vectors`, `single_vectors` and
+// `block_vectors` of oracle/programs, which has their format.
 mod answer;
 mod blocks;
+mod boundaries;
 mod calls;
 mod decimations;
 mod phases;
@@ -14,6 +15,8 @@ mod text;
 mod waves;
 
 use answer::answer;
+use boundaries::BOUNDARIES;
+use boundaries::boundaries_kept;
 use decimations::DecimateRun;
 use floats::POWERS;
 use libc::STDIN_FILENO;
@@ -153,8 +156,8 @@ fn main() {
     let powers = POWERS;
     let table = random::table();
     let mut tally = Tally {
-        passed: 0,
-        total: 0,
+        passed: boundaries_kept(),
+        total: BOUNDARIES,
     };
     for _ in 0..LINES {
         let mut line = [0u8; 39];
