@@ -1,7 +1,8 @@
 -- The laws of the two stages, for the crates above.
 pub mod Counts
+pub mod NoState
 pub mod NotOwn
-pub mod Offsets
 pub mod NotWave
+pub mod Offsets
 pub mod Powers
 pub mod SumRunLaws

@@ -1,6 +1,7 @@
 -- The wave stage of one lane at one rendered frame: `WaveRun` of mod.rs, its filter pairs and `last` in and out by value. Definitions only.
 use Prim.Native.Nat.{ℕ}
-use mathlib.Core.Bool.{Bool, _||_, _&&_}
+use mathlib.Core.Path.{_≡_}
+use mathlib.Core.Bool.{Bool, not, _||_, _&&_}
 use mathlib.Core.List.{List}
 use lib.Ieee.{Float}
 use Rattle.floats.specs.Steps.{_>>=_, if_then_else_}
@@ -8,7 +9,7 @@ use Rattle.lanes.specs.Word.{signedOf}
 use Rattle.phase.specs.declared.map.Slot.{Slot}
 use Rattle.wave.specs.declared.filters.Svf.{Svf}
 use Rattle.wave.specs.declared.filters.Filtered.{Filtered}
-use Rattle.wave.specs.Slot.{inWave, settingOf, shapeOf}
+use Rattle.wave.specs.Slot.{inWave, isLevel, settingOf, shapeOf}
 use Rattle.voice.specs.declared.control.Control.{Control}
 use Rattle.voice.specs.declared.wave_run.Shaped.{Shaped}
 use Rattle.voice.specs.PhaseRun.{isOwn}
@@ -22,6 +23,14 @@ unfoldable pub slotOf : List Float → Slot → Control → Float → Float → 
 slotOf sk slot control increment x state = do
   setting ← settingOf (slot .mode) (control .amount) (slot .character) (control .sourced) (control .source)
   shapeOf sk (slot .mode) setting increment x state
+
+-- a filter or a distortion
+unfoldable pub hasState : ℕ → Bool
+hasState mode = inWave mode && not (isLevel mode)
+
+-- y is what a slot without a state makes of x: it leaves any state
+abbrev pub Passes : Float → Slot → Control → Float → Type 0
+Passes y slot control x = (sk : List Float) (increment : Float) (state : Svf) → record { y = y; state = state } ≡ slotOf sk slot control increment x state
 
 -- `shape_at_lane`: slot 0, then slot 1; increment as i32 as f32 * PER_CYCLE is `signedOf`
 unfoldable pub shapedOf : List Float → Slot → Slot → Control → Control → ℕ → Float → Svf → Svf → Float → Shaped

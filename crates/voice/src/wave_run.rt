@@ -5,13 +5,17 @@ use lanes::Numbers;
 use lanes::signed;
 use phase::Slot;
 use wave::Filtered;
+use wave::Setting;
 use wave::Svf;
 use wave::in_wave;
+use wave::is_level;
+use wave::level;
 ghost use mathlib.Core.Path.{_≡_};
+ghost use mathlib.Core.Bool.{false};
 ghost use Rattle.floats.specs.Exp2.{entries};
 ghost use Rattle.wave.specs.Slot.{wavePower};
 ghost use Rattle.voice.specs.Power.{powerOf};
-ghost use Rattle.voice.specs.WaveRun.{tracks, slotOf, shapedOf};
+ghost use Rattle.voice.specs.WaveRun.{tracks, slotOf, hasState, Passes, shapedOf};
 
 // The sample that goes out, and the state after it.
 pub struct Shaped {
@@ -73,9 +77,8 @@ fn slot_at(
     Filtered { y: x, state: state }
 }
 
-// The sample `x` of a lane at one rendered frame, shaped by slot 0 and then slot 1, whose powers are
-// `power0` and `power1`.
-pub fn shape_of(
+// `shape_of` where a slot has a state.
+fn shape_stated(
     powers: &[u32; 257],
     numbers: Numbers,
     slot0: Slot,
@@ -125,6 +128,77 @@ pub fn shape_of(
         y: second.y,
         pairs0: state0,
         pairs1: state1,
+        last: kept,
+    }
+}
+
+// Whether a slot shapes with a state: a filter or a distortion.
+fn has_state(mode: u32) -> bool
+    ensures { λ r. ⌜ r ≡ hasState mode ⌝ }
+{
+    in_wave(mode) & !is_level(mode)
+}
+
+// What a slot without a state makes of the sample.
+fn level_of(slot: Slot, control: Control, x: f32) -> f32
+    requires { ⌜ hasState (slot .mode) ≡ false ⌝ }
+    ensures { λ r. ⌜ Passes r slot control x ⌝ }
+{
+    let mode = slot.mode;
+    if in_wave(mode) & control.sourced {
+        return level(mode, Setting::Level(control.amount, control.source), x);
+    }
+    x
+}
+
+// The sample `x` of a lane at one rendered frame, shaped by slot 0 and then slot 1, whose powers are
+// `power0` and `power1`.
+pub fn shape_of(
+    powers: &[u32; 257],
+    numbers: Numbers,
+    slot0: Slot,
+    slot1: Slot,
+    control0: Control,
+    control1: Control,
+    power0: f32,
+    power1: f32,
+    step: u32,
+    x: f32,
+    pairs0: Svf,
+    pairs1: Svf,
+    last: f32,
+) -> Shaped
+    requires { ⌜ now powers ≡ entries ⌝ ∗ ⌜ power0 ≡ powerOf (slot0 .mode) (control0 .amount) ⌝ ∗ ⌜ power1 ≡ powerOf (slot1 .mode) (control1 .amount) ⌝ }
+    ensures { λ r. ⌜ r ≡ shapedOf (numbers .sin) slot0 slot1 control0 control1 step x pairs0 pairs1 last ⌝ }
+{
+    if has_state(slot0.mode) | has_state(slot1.mode) {
+        return shape_stated(
+            powers,
+            numbers,
+            slot0,
+            slot1,
+            control0,
+            control1,
+            power0,
+            power1,
+            step,
+            x,
+            pairs0,
+            pairs1,
+            last,
+        );
+    }
+    let kept = if tracks(slot0.mode, slot1.mode) {
+        x
+    } else {
+        last
+    };
+    let first = level_of(slot0, control0, x);
+    let second = level_of(slot1, control1, first);
+    Shaped {
+        y: second,
+        pairs0: pairs0,
+        pairs1: pairs1,
         last: kept,
     }
 }

@@ -1,7 +1,7 @@
 -- What a slot does to one sample, `shape_of` of mod.rs for one slot: its setting, and the sample shaped by it. `sk` are the sine's numbers.
 -- Definitions only.
 use Prim.Native.Nat.{ℕ}
-use mathlib.Core.Bool.{Bool, true, false}
+use mathlib.Core.Bool.{Bool, true, false, not, _&&_}
 use mathlib.Core.Option.{Option, some, none}
 use mathlib.Core.List.{List, [], _∷_}
 use lib.Ieee.{Float}
@@ -37,6 +37,10 @@ isFilter mode = caseOf mode ((numberOf LowPass ⇒ true) ∷ (numberOf HighPass 
 -- self.modulated[slot]
 unfoldable pub isModulated : ℕ → Bool
 isModulated mode = saysModulated (modulatedOf mode)
+
+-- of the modes in the wave stage, those that keep no state
+unfoldable pub isLevel : ℕ → Bool
+isLevel mode = not (isFilter mode) && isModulated mode
 
 -- Filter(cutoff_harmonic(mode, a), damping(character))
 unfoldable pub filterSetting : ℕ → Float → Float → Setting

@@ -15,6 +15,7 @@ pub use filters::filter;
 pub use integrals::integral;
 pub use slots::Setting;
 pub use slots::in_wave;
+pub use slots::is_level;
 pub use slots::is_modulated;
 pub use slots::level;
 pub use slots::setting_of;

@@ -11,7 +11,7 @@ use modes::ModulatedFact;
 use modes::StageFact;
 ghost use mathlib.Core.Path.{_≡_};
 ghost use Rattle.floats.specs.Exp2.{entries};
-ghost use Rattle.wave.specs.Slot.{inWave, isFilter, isModulated, settingOf, wavePower, amOf, ringOf, levelOf, shapeOf};
+ghost use Rattle.wave.specs.Slot.{inWave, isFilter, isModulated, isLevel, settingOf, wavePower, amOf, ringOf, levelOf, shapeOf};
 
 // What a slot does to one sample: nothing, a filter with harmonic and damping, a curve with amount and
 // drive, a level with amount and source.
@@ -52,6 +52,13 @@ pub fn is_modulated(mode: u32) -> bool
         ModulatedFact::Refused => false,
         _ => true,
     }
+}
+
+// Whether it is AM or Ring, of the modes in the wave stage: those keep no state.
+pub fn is_level(mode: u32) -> bool
+    ensures { λ r. ⌜ r ≡ isLevel mode ⌝ }
+{
+    !is_filter(mode) & is_modulated(mode)
 }
 
 // The power of two in a slot's setting, which goes by the mode and the amount alone, so that a render
