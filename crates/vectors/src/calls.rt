@@ -1,14 +1,14 @@
 // Calls about one lane or about a block's spans, and the cells of their buffers, made of draws: at the
 // most four lanes and 72 host frames. Some calls are made to be turned down.
-use crate::answer::float;
-use crate::phases::around;
-use crate::phases::fraction;
-use crate::phases::inner_stretch;
-use crate::phases::special;
-use crate::random::ModesRun;
-use crate::random::next;
-use crate::waves::percent;
-use crate::waves::sample;
+use answers::answer::float;
+use answers::phases::around;
+use answers::phases::fraction;
+use answers::phases::inner_stretch;
+use answers::phases::special;
+use answers::random::ModesRun;
+use answers::random::next;
+use answers::waves::percent;
+use answers::waves::sample;
 use floats::nearest_u32;
 use grid::place;
 ghost use Prim.Native.Nat.{_≤_};

@@ -2,28 +2,23 @@
 // gives, and of document 01's boundary values how many are kept: "P of T" in all. The lines are those of
 // `leaf_vectors`, `phase_vectors`, `wave_vectors`, `decimate_vectors`, `single_vectors` and
 // `block_vectors` of oracle/programs, which has their format.
-mod answer;
 mod blocks;
 mod boundaries;
 mod calls;
-mod decimations;
-mod phases;
-mod random;
 mod singles;
 mod stretches;
 mod text;
-mod waves;
 
-use answer::answer;
+use answers::answer::answer;
+use answers::decimations::DecimateRun;
+use answers::random::ModesRun;
+use answers::random::Run;
+use answers::waves::WaveRun;
 use boundaries::BOUNDARIES;
 use boundaries::boundaries_kept;
-use decimations::DecimateRun;
 use floats::POWERS;
 use libc::STDIN_FILENO;
 use libc::STDOUT_FILENO;
-use random::ModesRun;
-use random::Run;
-use waves::WaveRun;
 ghost use mathlib.Core.Path.{_≡_};
 ghost use Rattle.floats.specs.Exp2.{entries};
 
@@ -52,7 +47,7 @@ fn decimated(a: u32, b: u32) -> Hashed {
     };
     Hashed {
         count: 1,
-        hash: decimations::decimate_hash(run),
+        hash: answers::decimations::decimate_hash(run),
     }
 }
 
@@ -89,7 +84,7 @@ fn ran(powers: &[u32; 257], table: &[f32; 1025], op: u32, a: u32, b: u32) -> Has
         let run = modes_run(a, b);
         Hashed {
             count: run.count as u64,
-            hash: phases::reads_hash(powers, table, run),
+            hash: answers::phases::reads_hash(powers, table, run),
         }
     } else if op == 0x36 {
         let run = WaveRun {
@@ -100,7 +95,7 @@ fn ran(powers: &[u32; 257], table: &[f32; 1025], op: u32, a: u32, b: u32) -> Has
         };
         Hashed {
             count: run.count as u64,
-            hash: waves::wave_hash(powers, run),
+            hash: answers::waves::wave_hash(powers, run),
         }
     } else if op == 0x40 {
         decimated(a, b)
@@ -114,7 +109,7 @@ fn ran(powers: &[u32; 257], table: &[f32; 1025], op: u32, a: u32, b: u32) -> Has
         };
         Hashed {
             count: b as u64,
-            hash: random::hash(powers, table, run),
+            hash: answers::random::hash(powers, table, run),
         }
     }
 }
@@ -154,7 +149,7 @@ fn added(t: Tally, more: Tally) -> Tally {
 
 fn main() {
     let powers = POWERS;
-    let table = random::table();
+    let table = answers::random::table();
     let mut tally = Tally {
         passed: boundaries_kept(),
         total: BOUNDARIES,

@@ -1,6 +1,5 @@
 // Runs of the calls about one lane: their buffers and then their calls are remade from a seed, the calls
 // one after the other on the same buffers, and a hash takes what each answers and leaves.
-use crate::answer::pattern;
 use crate::calls::Call;
 use crate::calls::Draws;
 use crate::calls::Kind;
@@ -10,10 +9,11 @@ use crate::calls::draw_kind;
 use crate::calls::drawn;
 use crate::calls::lent_of;
 use crate::calls::part;
-use crate::decimations::folded_cells;
-use crate::phases::folded_reads;
-use crate::random::ModesRun;
-use crate::random::folded;
+use answers::answer::pattern;
+use answers::decimations::folded_cells;
+use answers::phases::folded_reads;
+use answers::random::ModesRun;
+use answers::random::folded;
 use limits::Valued;
 use phase::Slot;
 use shaper::Range;

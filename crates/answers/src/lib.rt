@@ -1,0 +1,7 @@
+// The oracle's stored answers about leaves, read lists, slots of the wave stage and decimations, made
+// again: for the program `vectors`.
+pub mod answer;
+pub mod decimations;
+pub mod phases;
+pub mod random;
+pub mod waves;
