@@ -1,2 +1,3 @@
--- The laws of the table of refusals, for the proofs of this crate and of those above it.
+-- The laws of the table of refusals and of lengths, for the proofs of this crate and of those above it.
 pub mod LineLaws
+pub mod LengthLaws

@@ -1,12 +1,12 @@
 -- The laws of the table of refusals: what a call that passes a line has. Assumes nothing.
 use mathlib.Core.Path.{_≡_, refl}
-use mathlib.Core.Bool.{Bool, true, false, _||_}
-use mathlib.Core.List.{List, _∷_}
-use Prim.Native.Nat.{ℕ, suc, _+_, _*_, _/_, _≤_, _<_}
+use mathlib.Core.Bool.{Bool, true, false, cond, _||_}
+use mathlib.Core.List.{List, [], _∷_}
+use Prim.Native.Nat.{ℕ, suc, _+_, _*_, _≤_, _<_}
 use native.Mathlib.Omega.{arith}
 use lib.Dec.{ltb, eqb}
-use borrow.Author.Tests.{ltb-true, ltb-false, eqb-true, ne-eqb, not-false}
-use Rattle.limits.specs.Lines.{firstOf, badMode, badModes, badFactor, badLanes, badLane, badFrames, badRange, badFrame, badAsked, badRate, badCount, badCounts, shortCoefs, shortNumbers, shortLent, spansOf}
+use borrow.Author.Tests.{ltb-true, ltb-false, eqb-true, not-false}
+use Rattle.limits.specs.Lines.{firstOf, numberLines, badMode, badModes, badFactor, badLanes, badLane, badFrames, badRange, badFrame, badAsked, badRate, badCount, badCounts}
 
 -- ---- any table
 
@@ -20,6 +20,49 @@ first-passed false m lines e = (refl, e)
 pub or-false : (a b : Bool) → (a || b) ≡ false → (a ≡ false) × (b ≡ false)
 or-false true b e = absurd (let z : _≡_ {A = ℕ} 0 1 = cc in omega arith)
 or-false false b e = (refl, e)
+
+-- ---- lines 1 to 6, and then 7 and 8
+
+module _ (a b c d e f : Bool) where
+  -- the whole table, of which lines 1 to 6 are the first
+  abbrev pub allLines : Bool → Bool → List (Bool × ℕ)
+  allLines g h = (a, 1) ∷ (b, 2) ∷ (c, 3) ∷ (d, 4) ∷ (e, 5) ∷ (f, 6) ∷ (g, 7) ∷ (h, 8) ∷ []
+
+  -- none of lines 1 to 6 holds
+  pub record Numbers : Type 0 where
+    pub modes : a ≡ false
+    pub factor : b ≡ false
+    pub lanes : c ≡ false
+    pub frames : d ≡ false
+    pub rate : e ≡ false
+    pub counts : f ≡ false
+
+  pub numbers-passed : firstOf (numberLines a b c d e f) ≡ 0 → Numbers
+  numbers-passed h =
+      let p1 = first-passed a 0 _ h in
+      let p2 = first-passed b 1 _ (p1 .1) in
+      let p3 = first-passed c 2 _ (p2 .1) in
+      let p4 = first-passed d 3 _ (p3 .1) in
+      let p5 = first-passed e 4 _ (p4 .1) in
+      let p6 = first-passed f 5 _ (p5 .1) in
+      record { modes = p1 .0; factor = p2 .0; lanes = p3 .0; frames = p4 .0; rate = p5 .0; counts = p6 .0 }
+
+  -- then lines 7 and 8 decide
+  pub by-lengths : Numbers → (g h : Bool) → firstOf (allLines g h) ≡ cond g 7 (cond h 8 0)
+  unfolding firstOf
+  by-lengths p g h = rw (p .modes, p .factor, p .lanes, p .frames, p .rate, p .counts)
+
+-- a line of the first six that holds decides
+pub by-numbers : (a b c d e f g h : Bool) → (firstOf (numberLines a b c d e f) ≡ 0 → ⊥)
+    → firstOf (allLines a b c d e f g h) ≡ firstOf (numberLines a b c d e f)
+unfolding firstOf
+by-numbers true b c d e f g h n = refl
+by-numbers false true c d e f g h n = refl
+by-numbers false false true d e f g h n = refl
+by-numbers false false false true e f g h n = refl
+by-numbers false false false false true f g h n = refl
+by-numbers false false false false false true g h n = refl
+by-numbers false false false false false false g h n = absurd (n refl)
 
 -- ---- the lines
 
@@ -91,29 +134,3 @@ good-counts a b c e =
     let p = or-false (badCount a || badCount b) (badCount c) e in
     let q = or-false (badCount a) (badCount b) (p .0) in
     (good-count a (q .0) .1, good-count b (q .1) .1, good-count c (p .1) .1)
-
-pub good-coefs : (have : ℕ) → shortCoefs have ≡ false → 36 ≤ have
-good-coefs have e = ltb-false have 36 e
-
-pub good-numbers : (have : ℕ) → shortNumbers have ≡ false → 13 ≤ have
-good-numbers have e = ltb-false have 13 e
-
--- one that is given is long enough
-pub good-lent : (need have : ℕ) → shortLent need have ≡ false → (have ≡ 0 → ⊥) → need ≤ have
-good-lent need have e given = ltb-false have need (rw (ne-eqb have 0 given) at e)
-
--- ---- sub-blocks
-
--- a host frame's sub-block
-pub span-in : (frames h : ℕ) → h < frames → h / 32 < spansOf frames
-unfolding spansOf
-span-in frames h l = omega arith
-
-pub spans-small : (frames : ℕ) → frames ≤ 4096 → spansOf frames ≤ 128
-unfolding spansOf
-spans-small frames l = omega arith
-
--- a sub-block's first host frame
-pub span-first : (frames s : ℕ) → s < spansOf frames → s * 32 < frames
-unfolding spansOf
-span-first frames s l = omega arith

@@ -1,2 +1,3 @@
--- The table of refusals: the definitions that contracts cite. Their laws are in proofs/.
+-- The table of refusals and the lengths of buffers: the definitions that contracts cite. Their laws are in proofs/.
 pub mod Lines
+pub mod Lengths

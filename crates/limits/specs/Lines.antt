@@ -1,9 +1,8 @@
 -- Document 01's table of refusals ("Turned down"), line by line: a test for each cause, over whole numbers. A call lists the lines of the
--- arguments that it has, in the table's order, and its number is the first that holds. Lengths are compared
--- with what a call asks for beside its list. Definitions only.
-use mathlib.Core.Bool.{Bool, cond, not, _||_, _&&_}
+-- arguments that it has, in the table's order, and its number is the first that holds. Lines 7 and 8 are in Lengths.antt. Definitions only.
+use mathlib.Core.Bool.{Bool, cond, not, _||_}
 use mathlib.Core.List.{List, [], _∷_}
-use Prim.Native.Nat.{ℕ, _+_, _*_, _/_}
+use Prim.Native.Nat.{ℕ, _+_, _*_}
 use lib.Dec.{ltb, eqb}
 
 -- the number of the first test that holds, and 0 where none does
@@ -59,18 +58,6 @@ badCount count = ltb count 1 || ltb 12 count
 abbrev pub badCounts : ℕ → ℕ → ℕ → Bool
 badCounts count0 count1 count2 = badCount count0 || badCount count1 || badCount count2
 
--- 7: a read buffer too short. Designs come by value, with all 36 coefficients, or on a slice
-abbrev pub shortCoefs : ℕ → Bool
-shortCoefs coefs = ltb coefs 36
-
--- 7: sine and arctangent numbers come by value, all 13, or on a slice
-abbrev pub shortNumbers : ℕ → Bool
-shortNumbers have = ltb have 13
-
--- 7: a given modulation or source; an empty one is absent
-abbrev pub shortLent : ℕ → ℕ → Bool
-shortLent need have = not (eqb have 0) && ltb have need
-
--- the sub-blocks of 32 host frames in a block, the last of which may be shorter: the rows of each prepared span
-unfoldable pub spansOf : ℕ → ℕ
-spansOf frames = (frames + 31) / 32
+-- lines 1 to 6, by their tests
+abbrev pub numberLines : Bool → Bool → Bool → Bool → Bool → Bool → List (Bool × ℕ)
+numberLines modes factor lanes frames rate counts = (modes, 1) ∷ (factor, 2) ∷ (lanes, 3) ∷ (frames, 4) ∷ (rate, 5) ∷ (counts, 6) ∷ []

@@ -1,140 +1,37 @@
-// When a call is turned down: document 01's table, with a function for each test. The tests take any
-// numbers, so a call puts its arguments to them as they come.
-ghost use mathlib.Core.Path.{_≡_};
-ghost use Prim.Native.Nat.{_*_, _≤_};
-ghost use Rattle.limits.specs.Lines.{badMode, badModes, badFactor, badLanes, badLane, badFrames, badRange, badFrame, badAsked, badRate, badCount, badCounts, shortCoefs, shortNumbers, shortLent, spansOf};
+// When a call is turned down: document 01's table of refusals, with a function for each test, and the
+// lengths that it asks of buffers. The tests take any numbers, so that a call puts its arguments to them
+// as they come.
+pub mod answers;
+pub mod lengths;
+pub mod lines;
 
-// The number by which a call is turned down, 0 where it is accepted, and its frames, 0 where it is turned
-// down.
-#[repr(C)]
-pub struct Answer {
-    pub number: u32,
-    pub frames: u32,
-}
-
-// The same with a float that the call answers, 0 where it is turned down.
-#[repr(C)]
-pub struct Valued {
-    pub number: u32,
-    pub frames: u32,
-    pub value: f32,
-}
-
-// Line 1, for a call with one mode.
-pub fn mode_bad(mode: u32) -> bool
-    ensures { λ r. ⌜ r ≡ badMode mode ⌝ }
-{
-    69 < mode
-}
-
-// Line 1.
-pub fn modes_bad(mode0: u32, mode1: u32) -> bool
-    ensures { λ r. ⌜ r ≡ badModes mode0 mode1 ⌝ }
-{
-    mode_bad(mode0) | mode_bad(mode1)
-}
-
-// Line 2.
-pub fn factor_bad(factor: u32) -> bool
-    ensures { λ r. ⌜ r ≡ badFactor factor ⌝ }
-{
-    !((factor == 1) | (factor == 2) | (factor == 4) | (factor == 8))
-}
-
-// Line 3.
-pub fn lanes_bad(lanes: u32, active: u32) -> bool
-    ensures { λ r. ⌜ r ≡ badLanes lanes active ⌝ }
-{
-    (lanes < 1) | (64 < lanes) | (lanes < active)
-}
-
-// Line 3, for a call about a single lane.
-pub fn lane_bad(active: u32, lane: u32) -> bool
-    ensures { λ r. ⌜ r ≡ badLane active lane ⌝ }
-{
-    !(lane < active)
-}
-
-// Line 4.
-pub fn frames_bad(frames: u32) -> bool
-    ensures { λ r. ⌜ r ≡ badFrames frames ⌝ }
-{
-    4096 < frames
-}
-
-// Line 4, for a call with a range. The sum is in u64, where it cannot wrap.
-pub fn range_bad(frames: u32, first: u32, count: u32) -> bool
-    ensures { λ r. ⌜ r ≡ badRange frames first count ⌝ }
-{
-    (frames as u64) < first as u64 + count as u64
-}
-
-// The rendered frames of a range. In u64 the product cannot wrap.
-fn rendered(factor: u32, count: u32) -> u64
-    ensures { λ r. ⌜ r ≡ count * factor ⌝ }
-{
-    count as u64 * factor as u64
-}
-
-// Line 4, for a call about a single rendered frame of a range.
-pub fn frame_bad(factor: u32, count: u32, frame: u32) -> bool
-    ensures { λ r. ⌜ r ≡ badFrame factor count frame ⌝ }
-{
-    !((frame as u64) < rendered(factor, count))
-}
-
-// Line 4, for `PhaseRun::stretch`.
-pub fn asked_bad(factor: u32, count: u32, first: u32, asked: u32) -> bool
-    ensures { λ r. ⌜ r ≡ badAsked factor count first asked ⌝ }
-{
-    frame_bad(factor, count, first) | (rendered(factor, count) < first as u64 + asked as u64)
-}
-
-// Line 5.
-pub fn rate_bad(rate: u32) -> bool
-    ensures { λ r. ⌜ r ≡ badRate rate ⌝ }
-{
-    (rate < 8000) | (192000 < rate)
-}
-
-fn count_bad(count: u32) -> bool
-    ensures { λ r. ⌜ r ≡ badCount count ⌝ }
-{
-    (count < 1) | (12 < count)
-}
-
-// Line 6.
-pub fn counts_bad(count0: u32, count1: u32, count2: u32) -> bool
-    ensures { λ r. ⌜ r ≡ badCounts count0 count1 count2 ⌝ }
-{
-    count_bad(count0) | count_bad(count1) | count_bad(count2)
-}
-
-// Line 7, for coefficients on a slice.
-pub fn coefs_short(have: usize) -> bool
-    ensures { λ r. ⌜ r ≡ shortCoefs have ⌝ }
-{
-    have < 36
-}
-
-// Line 7, for sine and arctangent numbers on a slice.
-pub fn numbers_short(have: usize) -> bool
-    ensures { λ r. ⌜ r ≡ shortNumbers have ⌝ }
-{
-    have < 13
-}
-
-// Line 7, for a modulation or a source. An empty slice means absent.
-pub fn lent_short(need: usize, have: usize) -> bool
-    ensures { λ r. ⌜ r ≡ shortLent need have ⌝ }
-{
-    !(have == 0) & (have < need)
-}
-
-// How many sub-blocks of 32 host frames a block has.
-pub fn spans_of(frames: u32) -> u32
-    requires { ⌜ frames ≤ 4096 ⌝ }
-    ensures { λ r. ⌜ r ≡ spansOf frames ⌝ }
-{
-    (frames + 31) / 32
-}
+pub use answers::Answer;
+pub use answers::Value;
+pub use answers::Valued;
+pub use lengths::COEFS_LENGTH;
+pub use lengths::CURVE_LENGTH;
+pub use lengths::CYCLE_LENGTH;
+pub use lengths::ControlLengths;
+pub use lengths::NUMBERS_LENGTH;
+pub use lengths::carry_length;
+pub use lengths::controls_short;
+pub use lengths::host_length;
+pub use lengths::last_length;
+pub use lengths::pairs_length;
+pub use lengths::rendered_length;
+pub use lengths::short;
+pub use lengths::span_length;
+pub use lengths::spans_of;
+pub use lengths::state_length;
+pub use lines::asked_bad;
+pub use lines::counts_bad;
+pub use lines::factor_bad;
+pub use lines::first_line;
+pub use lines::frame_bad;
+pub use lines::frames_bad;
+pub use lines::lane_bad;
+pub use lines::lanes_bad;
+pub use lines::mode_bad;
+pub use lines::modes_bad;
+pub use lines::range_bad;
+pub use lines::rate_bad;

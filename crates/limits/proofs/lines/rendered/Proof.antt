@@ -1,10 +1,10 @@
--- `rendered` meets its contract: the product of two u32 fits a u64. Assumes nothing.
+-- `lines::rendered` meets its contract: the product of two u32 fits a u64. Assumes nothing.
 use Prim.Native.Nat.{_*_, _≤_}
 use native.Mathlib.Nat.{mul-le-mul}
 use native.Mathlib.Omega.{arith}
 use borrow.Author.Needs.{needs}
-use Rattle.limits.proofs.rendered.Statement.{statement}
-use Rattle.limits.proofs.rendered.Tie as tie
+use Rattle.limits.proofs.lines.rendered.Statement.{statement}
+use Rattle.limits.proofs.lines.rendered.Tie as tie
 
 mul-result : tie.Need-mul-result
 mul-result c =

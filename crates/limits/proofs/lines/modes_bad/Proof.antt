@@ -1,7 +1,7 @@
--- `modes_bad` meets its contract. Assumes nothing.
+-- `lines::modes_bad` meets its contract. Assumes nothing.
 use borrow.Author.Needs.{needs}
-use Rattle.limits.proofs.modes_bad.Statement.{statement}
-use Rattle.limits.proofs.modes_bad.Tie as tie
+use Rattle.limits.proofs.lines.modes_bad.Statement.{statement}
+use Rattle.limits.proofs.lines.modes_bad.Tie as tie
 
 returns : tie.Need-returns
 returns c = rw (c .mode-bad2 .ensures, c .before .mode-bad .ensures)

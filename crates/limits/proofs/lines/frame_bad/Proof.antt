@@ -1,7 +1,7 @@
--- `frame_bad` meets its contract. Assumes nothing.
+-- `lines::frame_bad` meets its contract. Assumes nothing.
 use borrow.Author.Needs.{needs}
-use Rattle.limits.proofs.frame_bad.Statement.{statement}
-use Rattle.limits.proofs.frame_bad.Tie as tie
+use Rattle.limits.proofs.lines.frame_bad.Statement.{statement}
+use Rattle.limits.proofs.lines.frame_bad.Tie as tie
 
 returns : tie.Need-returns
 returns c = rw (c .rendered .ensures)

@@ -1,7 +1,7 @@
--- `asked_bad` meets its contract. Assumes nothing.
+-- `lines::asked_bad` meets its contract. Assumes nothing.
 use borrow.Author.Needs.{needs}
-use Rattle.limits.proofs.asked_bad.Statement.{statement}
-use Rattle.limits.proofs.asked_bad.Tie as tie
+use Rattle.limits.proofs.lines.asked_bad.Statement.{statement}
+use Rattle.limits.proofs.lines.asked_bad.Tie as tie
 
 returns : tie.Need-returns
 returns c = rw (c .before .frame-bad .ensures, c .rendered .ensures)

@@ -1,0 +1,118 @@
+// Lines 7 and 8 of the table: how long buffers are asked to be. The lines above keep the products small.
+ghost use mathlib.Core.Path.{_≡_};
+ghost use Prim.Native.Nat.{_≤_};
+ghost use Rattle.limits.specs.Lengths.{spansOf, hostLength, renderedLength, spanLength, pairsLength, carryLength, lastLength, stateLength, shorter, shortLent, shortControls};
+
+// The remap curve.
+pub const CURVE_LENGTH: usize = 1025;
+
+// The cycle.
+pub const CYCLE_LENGTH: usize = 2048;
+
+// Three designs of twelve coefficients.
+pub const COEFS_LENGTH: usize = 36;
+
+// The sine's five numbers and the arctangent's eight.
+pub const NUMBERS_LENGTH: usize = 13;
+
+// The lengths of base, modulation and sources of both slots.
+pub struct ControlLengths {
+    pub base0: usize,
+    pub base1: usize,
+    pub mod0: usize,
+    pub mod1: usize,
+    pub source0: usize,
+    pub source1: usize,
+}
+
+// How many sub-blocks of 32 host frames a block has.
+pub fn spans_of(frames: u32) -> u32
+    requires { ⌜ frames ≤ 4096 ⌝ }
+    ensures { λ r. ⌜ r ≡ spansOf frames ⌝ }
+{
+    (frames + 31) / 32
+}
+
+// A number for each host frame.
+pub fn host_length(frames: u32, lanes: u32) -> usize
+    requires { ⌜ (frames ≤ 4096) × (lanes ≤ 64) ⌝ }
+    ensures { λ r. ⌜ r ≡ hostLength frames lanes ⌝ }
+{
+    (frames * lanes) as usize
+}
+
+// A number for each rendered frame.
+pub fn rendered_length(frames: u32, factor: u32, lanes: u32) -> usize
+    requires { ⌜ (frames ≤ 4096) × (factor ≤ 8) × (lanes ≤ 64) ⌝ }
+    ensures { λ r. ⌜ r ≡ renderedLength frames factor lanes ⌝ }
+{
+    (frames * factor * lanes) as usize
+}
+
+// A number for each sub-block.
+pub fn span_length(frames: u32, lanes: u32) -> usize
+    requires { ⌜ (frames ≤ 4096) × (lanes ≤ 64) ⌝ }
+    ensures { λ r. ⌜ r ≡ spanLength frames lanes ⌝ }
+{
+    (spans_of(frames) * lanes) as usize
+}
+
+// The filter pairs.
+pub fn pairs_length(lanes: u32) -> usize
+    requires { ⌜ lanes ≤ 64 ⌝ }
+    ensures { λ r. ⌜ r ≡ pairsLength lanes ⌝ }
+{
+    (4 * lanes) as usize
+}
+
+// The FM carry.
+pub fn carry_length(lanes: u32) -> usize
+    requires { ⌜ lanes ≤ 64 ⌝ }
+    ensures { λ r. ⌜ r ≡ carryLength lanes ⌝ }
+{
+    (2 * lanes) as usize
+}
+
+// `last`.
+pub fn last_length(lanes: u32) -> usize
+    ensures { λ r. ⌜ r ≡ lastLength lanes ⌝ }
+{
+    lanes as usize
+}
+
+// The decimator's state.
+pub fn state_length(lanes: u32) -> usize
+    requires { ⌜ lanes ≤ 64 ⌝ }
+    ensures { λ r. ⌜ r ≡ stateLength lanes ⌝ }
+{
+    (72 * lanes) as usize
+}
+
+// A buffer of `have` numbers where `need` are asked for.
+pub fn short(need: usize, have: usize) -> bool
+    ensures { λ r. ⌜ r ≡ shorter need have ⌝ }
+{
+    have < need
+}
+
+// A modulation or a source. An empty slice means absent.
+fn lent_short(need: usize, have: usize) -> bool
+    ensures { λ r. ⌜ r ≡ shortLent need have ⌝ }
+{
+    !(have == 0) & short(need, have)
+}
+
+// Line 7 for base, modulation and sources.
+pub fn controls_short(frames: u32, lanes: u32, l: ControlLengths) -> bool
+    requires { ⌜ (frames ≤ 4096) × (lanes ≤ 64) ⌝ }
+    ensures { λ r. ⌜ r ≡ shortControls frames lanes l ⌝ }
+{
+    let n = lanes as usize;
+    let rows = host_length(frames, lanes);
+    short(n, l.base0)
+        | short(n, l.base1)
+        | lent_short(rows, l.mod0)
+        | lent_short(rows, l.mod1)
+        | lent_short(rows, l.source0)
+        | lent_short(rows, l.source1)
+}
