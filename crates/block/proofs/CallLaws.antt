@@ -2,14 +2,14 @@
 use mathlib.Core.Path.{_≡_, refl, sym, _∙_, subst}
 use Prim.Native.Nat.{ℕ}
 use borrow.Author.Tests.{ne-eqb, eq-eqb}
-use Rattle.limits.specs.declared.Answer.{Answer}
+use Rattle.limits.specs.declared.answers.Answer.{Answer}
 use Rattle.shaper.specs.declared.settings.Range.{Range}
 use Rattle.render.specs.declared.cells.BlockSettings.{BlockSettings}
 use Rattle.render.specs.Lane.{Lent}
 use Rattle.render.specs.Share.{Buffers}
 use Rattle.render.specs.Promises.{Shared}
 use Rattle.block.specs.Refusal.{blockRefusal}
-use Rattle.block.specs.Call.{Meets, called, readLengths, writeLengths, numberOf}
+use Rattle.block.specs.Call.{Meets, called, readLengths, writeLengths, refusalOf}
 use Rattle.block.proofs.RefusalLaws.{accepted-by-value}
 use Rattle.block.proofs.SharedLaws.{sizes-lengths}
 
@@ -19,7 +19,7 @@ module _ (b : BlockSettings) (r : Range) (active coefs numbers : ℕ) (l : Lent)
 
   pub meets-refused : (answer : ℕ) → answer ≡ number → (answer ≡ 0 → ⊥)
       → Meets (called b r active coefs numbers l w w (record { number = answer; frames = 0 }))
-  unfolding numberOf
+  unfolding refusalOf
   meets-refused answer e bad =
       record {
         number = e;
@@ -31,7 +31,7 @@ module _ (b : BlockSettings) (r : Range) (active coefs numbers : ℕ) (l : Lent)
 
   pub meets-shared : {w' : Buffers} → number ≡ 0 → Shared b r l 0 active w w'
       → Meets (called b r active coefs numbers l w w' (record { number = 0; frames = r .count }))
-  unfolding numberOf
+  unfolding refusalOf
   meets-shared ok did =
       record {
         number = sym ok;
@@ -44,7 +44,7 @@ module _ (b : BlockSettings) (r : Range) (active coefs numbers : ℕ) (l : Lent)
   -- slices that are long enough do as coefficients and numbers by value
   pub on-slices : {b' : BlockSettings} {w' : Buffers} {a : Answer} → b' ≡ b → number ≡ 0 → Meets (called b' r active 36 13 l w w' a)
       → Meets (called b r active coefs numbers l w w' a)
-  unfolding numberOf
+  unfolding refusalOf
   on-slices {w' = w'} {a = a} e ok m =
       let did = subst (λ (x : BlockSettings). Meets (called x r active 36 13 l w w' a)) e m in
       let whole = accepted-by-value b r active coefs numbers l w ok in

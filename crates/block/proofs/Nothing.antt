@@ -7,16 +7,16 @@ use Rattle.grid.specs.Lanes.{Each}
 use Rattle.grid.proofs.EachLaws.{each-id, each-none, each-same, each-unique}
 use Rattle.render.specs.Share.{columnsOf}
 use Rattle.block.proofs.NoFrames.{share-still}
-use Rattle.block.specs.Call.{Call, Meets, numberOf, lanesOf, inputs, shareOf}
+use Rattle.block.specs.Call.{Call, Meets, refusalOf, lanesOf, inputs, shareOf}
 use Rattle.block.proofs.RefusalLaws.{call-taken}
 use Rattle.block.proofs.Unique.{buffers-same}
 
 module _ (c : Call) (did : Meets c) where
   -- a call in which no lane's share does anything
   still : Each (lanesOf c) 0 (c .active) (shareOf c) (columnsOf (lanesOf c) (c .before)) (columnsOf (lanesOf c) (c .before)) → c .after ≡ c .before
-  still idle = go (ℕ-discrete (numberOf c) 0)
+  still idle = go (ℕ-discrete (refusalOf c) 0)
     where
-      go : Dec (numberOf c ≡ 0) → c .after ≡ c .before
+      go : Dec (refusalOf c ≡ 0) → c .after ≡ c .before
       go (yes ok) =
           buffers-same (lanesOf c) (call-taken c ok .some) (c .after) (c .before) (did .sizes) (each-unique (did .lanes ok) idle)
       go (no bad) = did .refused bad

@@ -1,28 +1,27 @@
 -- The laws of a block run's refusals: an accepted one passes all eight lines of the table, and so has what its lanes' shares ask for.
 -- Assumes nothing.
 use mathlib.Core.Path.{_≡_}
-use mathlib.Core.Bool.{Bool, false, _||_}
-use Prim.Native.Nat.{ℕ, zero, suc, _+_, _*_, _≤_, _<_}
+use mathlib.Core.Bool.{false, _||_}
+use Prim.Native.Nat.{ℕ, _+_, _≤_}
 use native.Mathlib.Omega.{arith}
-use lib.Dec.{ltb}
 use lib.ListN.{length}
-use borrow.Author.Tests.{ltb-false, le-ltb}
-use Rattle.limits.specs.Lines.{firstOf, badFactor, badLanes, badFrames, badRange, badRate, shortCoefs, shortNumbers, spansOf}
-use Rattle.limits.proofs.LineLaws.{first-passed, or-false, small-factor, good-lanes, good-frames, good-range, good-rate, good-counts, good-coefs, good-numbers}
+use Rattle.limits.specs.Lines.{firstOf, numberLines, badFactor, badLanes, badRate}
+use Rattle.limits.specs.Lengths.{hostLength, renderedLength, spanLength, curveLength, cycleLength, coefsLength, numbersLength, pairsLength, carryLength, lastLength, stateLength, shorter}
+use Rattle.limits.proofs.LineLaws.{thenLengths, whole-table, first-passed, or-false, small-factor, good-lanes, good-range, good-rate, good-counts}
+use Rattle.limits.proofs.LengthLaws.{long-enough, not-short, controls-held}
 use Rattle.halfband.specs.Floats.{designOf}
-use Rattle.halfband.proofs.RefusalLaws.{good-factor}
+use Rattle.halfband.proofs.RefusalLaws.{good-factor, three}
 use Rattle.shaper.specs.declared.settings.Settings.{Settings}
 use Rattle.shaper.specs.declared.settings.Range.{Range}
-use Rattle.shaper.specs.Refusal.{modeLine, controlsShort}
-use Rattle.shaper.proofs.RefusalLaws.{controls-held}
+use Rattle.shaper.specs.Refusal.{modeLine}
 use Rattle.render.specs.declared.cells.BlockSettings.{BlockSettings}
 use Rattle.render.specs.Lane.{Lent}
 use Rattle.render.specs.Share.{Buffers}
 use Rattle.render.specs.Promises.{Limits, Readable, Writable}
 use Rattle.block.specs.declared.refusal.ReadLengths.{ReadLengths}
 use Rattle.block.specs.declared.refusal.WriteLengths.{WriteLengths}
-use Rattle.block.specs.Refusal.{rangeLine, countLine, readsShort, writesShort, blockRefusal}
-use Rattle.block.specs.Call.{Call, readLengths, writeLengths, numberOf}
+use Rattle.block.specs.Refusal.{rangeLine, countLine, lentShort, readsShort, writesShort, blockRefusal}
+use Rattle.block.specs.Call.{Call, readLengths, writeLengths, refusalOf}
 
 -- ---- the lines
 
@@ -59,6 +58,14 @@ module _ (b : BlockSettings) (r : Range) (active : ℕ) (reads : ReadLengths) (w
         written = p8 .0;
       }
 
+  pub table-is : blockRefusal b r active reads writes
+      ≡ thenLengths (firstOf (numberLines (modeLine (b .shaper)) (badFactor (b .shaper .factor)) (badLanes (b .shaper .lanes) active) (rangeLine (b .shaper) r) (badRate (b .rate)) (countLine b)))
+      (readsShort (b .shaper) reads) (writesShort (b .shaper) r writes)
+  unfolding blockRefusal firstOf
+  table-is =
+      whole-table (modeLine (b .shaper)) (badFactor (b .shaper .factor)) (badLanes (b .shaper .lanes) active) (rangeLine (b .shaper) r) (badRate (b .rate)) (countLine b)
+      (readsShort (b .shaper) reads) (writesShort (b .shaper) r writes)
+
   pub passes : Passed b r active reads writes → blockRefusal b r active reads writes ≡ 0
   unfolding blockRefusal firstOf
   passes p = rw (p .modes, p .factors, p .lanes, p .ranges, p .rates, p .counts, p .read, p .written)
@@ -66,98 +73,81 @@ module _ (b : BlockSettings) (r : Range) (active : ℕ) (reads : ReadLengths) (w
 -- ---- line 4
 
 module _ (s : Settings) (r : Range) (e : rangeLine s r ≡ false) where
-  pub line-block : badFrames (s .frames) ≡ false
-  line-block = or-false (badFrames (s .frames)) (badRange (s .frames) (r .first) (r .count)) e .0
-
   pub line-frames : s .frames ≤ 4096
-  line-frames = good-frames (s .frames) line-block
+  line-frames = good-range (s .frames) (r .first) (r .count) e .0
 
   pub line-range : r .first + r .count ≤ s .frames
-  line-range =
-      good-range (s .frames) (r .first) (r .count)
-      (or-false (badFrames (s .frames)) (badRange (s .frames) (r .first) (r .count)) e .1)
+  line-range = good-range (s .frames) (r .first) (r .count) e .1
 
   pub line-count : r .count ≤ 4096
   line-count = omega (arith, line-frames, line-range)
 
 -- ---- line 7
 
--- what is asked of all that is lent but coefficients and numbers
-abbrev othersShort : Settings → Lent → Bool
-othersShort s l =
-    controlsShort (s .lanes) (s .frames) (readLengths 36 13 l .controls) || ltb (length (l .curve)) 1025 || ltb (length (l .cycle)) 2048
-    || ltb (length (l .words)) (s .frames * s .factor * s .lanes) || ltb (length (l .steps)) (s .frames * s .factor * s .lanes)
-    || ltb (length (l .inner)) (spansOf (s .frames) * s .lanes)
+module _ (s : Settings) (coefs numbers : ℕ) (l : Lent) where
+  lent-held : lentShort s (readLengths coefs numbers l) ≡ false → Readable s l
+  lent-held e =
+      let rows : ℕ = renderedLength (s .frames) (s .factor) (s .lanes) in
+      let x5 = or-false _ (shorter (spanLength (s .frames) (s .lanes)) (length (l .inner))) e in
+      let x4 = or-false _ (shorter rows (length (l .steps))) (x5 .0) in
+      let x3 = or-false _ (shorter rows (length (l .words))) (x4 .0) in
+      let x2 = or-false _ (shorter cycleLength (length (l .cycle))) (x3 .0) in
+      let x1 = or-false _ (shorter curveLength (length (l .curve))) (x2 .0) in
+      record {
+        controls = controls-held (s .frames) (s .lanes) _ (x1 .0);
+        curve = long-enough _ _ (x1 .1);
+        cycle = long-enough _ _ (x2 .1);
+        words = long-enough _ _ (x3 .1);
+        steps = long-enough _ _ (x4 .1);
+        inner = long-enough _ _ (x5 .1);
+      }
 
-others-held : (s : Settings) (l : Lent) → othersShort s l ≡ false → Readable s l
-others-held s l e =
-    let rows : ℕ = s .frames * s .factor * s .lanes in
-    let x5 = or-false _ (ltb (length (l .inner)) (spansOf (s .frames) * s .lanes)) e in
-    let x4 = or-false _ (ltb (length (l .steps)) rows) (x5 .0) in
-    let x3 = or-false _ (ltb (length (l .words)) rows) (x4 .0) in
-    let x2 = or-false _ (ltb (length (l .cycle)) 2048) (x3 .0) in
-    let x1 = or-false _ (ltb (length (l .curve)) 1025) (x2 .0) in
-    let controls = controls-held (s .lanes) (s .frames) _ (x1 .0) in
-    record {
-      base0 = controls .base0;
-      base1 = controls .base1;
-      mod0 = controls .mod0;
-      mod1 = controls .mod1;
-      source0 = controls .source0;
-      source1 = controls .source1;
-      curve = ltb-false _ _ (x1 .1);
-      cycle = ltb-false _ _ (x2 .1);
-      words = ltb-false _ _ (x3 .1);
-      steps = ltb-false _ _ (x4 .1);
-      inner = ltb-false _ _ (x5 .1);
-    }
+  module _ (e : readsShort s (readLengths coefs numbers l) ≡ false) where
+    most : ((lentShort s (readLengths coefs numbers l) || shorter coefsLength coefs) ≡ false) × (shorter numbersLength numbers ≡ false)
+    most = or-false (lentShort s (readLengths coefs numbers l) || shorter coefsLength coefs) (shorter numbersLength numbers) e
 
-module _ (s : Settings) (coefs numbers : ℕ) (l : Lent) (e : readsShort s (readLengths coefs numbers l) ≡ false) where
-  most : ((othersShort s l || shortCoefs coefs) ≡ false) × (shortNumbers numbers ≡ false)
-  most = or-false (othersShort s l || shortCoefs coefs) (shortNumbers numbers) e
+    others : (lentShort s (readLengths coefs numbers l) ≡ false) × (shorter coefsLength coefs ≡ false)
+    others = or-false (lentShort s (readLengths coefs numbers l)) (shorter coefsLength coefs) (most .0)
 
-  others : (othersShort s l ≡ false) × (shortCoefs coefs ≡ false)
-  others = or-false (othersShort s l) (shortCoefs coefs) (most .0)
+    pub readable : Readable s l
+    readable = lent-held (others .0)
 
-  pub readable : Readable s l
-  readable = others-held s l (others .0)
+    -- coefficients and numbers on slices that are long enough
+    pub whole-slices : (coefsLength ≤ coefs) × (numbersLength ≤ numbers)
+    whole-slices = (long-enough coefsLength coefs (others .1), long-enough numbersLength numbers (most .1))
 
-  -- coefficients and numbers on slices that are long enough
-  pub whole-slices : (36 ≤ coefs) × (13 ≤ numbers)
-  whole-slices = (good-coefs coefs (others .1), good-numbers numbers (most .1))
-
-  -- are as good as those that come by value
-  pub by-value : readsShort s (readLengths 36 13 l) ≡ false
-  by-value = rw (others .0)
+    -- are as good as those that come by value
+    pub by-value : readsShort s (readLengths coefsLength numbersLength l) ≡ false
+    by-value = rw (others .0)
 
 -- ---- line 8
 
 module _ (s : Settings) (r : Range) (w : Buffers) where
   pub writable : writesShort s r (writeLengths w) ≡ false → Writable s r w
   writable e =
-      let x5 = or-false _ (ltb (length (w .dec)) (72 * s .lanes)) e in
-      let x4 = or-false _ (ltb (length (w .last)) (s .lanes)) (x5 .0) in
-      let x3 = or-false _ (ltb (length (w .fm)) (2 * s .lanes)) (x4 .0) in
-      let x2 = or-false _ (ltb (length (w .pairs)) (4 * s .lanes)) (x3 .0) in
-      let x1 = or-false (ltb (length (w .output)) (s .frames * s .lanes)) (ltb (length (w .work)) (r .count * s .factor * s .lanes)) (x2 .0) in
+      let x5 = or-false _ (shorter (stateLength (s .lanes)) (length (w .dec))) e in
+      let x4 = or-false _ (shorter (lastLength (s .lanes)) (length (w .last))) (x5 .0) in
+      let x3 = or-false _ (shorter (carryLength (s .lanes)) (length (w .fm))) (x4 .0) in
+      let x2 = or-false _ (shorter (pairsLength (s .lanes)) (length (w .pairs))) (x3 .0) in
+      let x1 = or-false (shorter (hostLength (s .frames) (s .lanes)) (length (w .output))) (shorter (renderedLength (r .count) (s .factor) (s .lanes)) (length (w .work))) (x2 .0) in
       record {
-        output = ltb-false _ _ (x1 .0);
-        work = ltb-false _ _ (x1 .1);
-        pairs = ltb-false _ _ (x2 .1);
-        fm = ltb-false _ _ (x3 .1);
-        last = ltb-false _ _ (x4 .1);
-        dec = ltb-false _ _ (x5 .1);
+        output = long-enough _ _ (x1 .0);
+        work = long-enough _ _ (x1 .1);
+        pairs = long-enough _ _ (x2 .1);
+        fm = long-enough _ _ (x3 .1);
+        last = long-enough _ _ (x4 .1);
+        dec = long-enough _ _ (x5 .1);
       }
 
-  pub not-short : Writable s r w → writesShort s r (writeLengths w) ≡ false
-  not-short h =
+  pub all-long : Writable s r w → writesShort s r (writeLengths w) ≡ false
+  all-long h =
       rw (
-        le-ltb (length (w .output)) (s .frames * s .lanes) (h .output),
-        le-ltb (length (w .work)) (r .count * s .factor * s .lanes) (h .work),
-        le-ltb (length (w .pairs)) (4 * s .lanes) (h .pairs),
-        le-ltb (length (w .fm)) (2 * s .lanes) (h .fm),
-        le-ltb (length (w .last)) (s .lanes) (h .last),
-        le-ltb (length (w .dec)) (72 * s .lanes) (h .dec),
+        not-short (hostLength (s .frames) (s .lanes)) (length (w .output)) (h .output),
+        not-short (renderedLength (r .count) (s .factor) (s .lanes)) (length (w .work)) (h .work),
+        not-short (pairsLength (s .lanes)) (length (w .pairs)) (h .pairs),
+        not-short (carryLength (s .lanes)) (length (w .fm)) (h .fm),
+        not-short (lastLength (s .lanes)) (length (w .last)) (h .last),
+        not-short (stateLength (s .lanes)) (length (w .dec)) (h .dec),
       )
 
 -- ---- an accepted block run
@@ -169,12 +159,6 @@ pub record Taken (b : BlockSettings) (r : Range) (active : ℕ) (l : Lent) (w : 
   pub actives : active ≤ b .shaper .lanes
   pub readable : Readable (b .shaper) l
   pub writable : Writable (b .shaper) r w
-
-three : (P : ℕ → Type 0) → P 0 → P 1 → P 2 → (j : ℕ) → j < 3 → P j
-three P p0 p1 p2 zero h = p0
-three P p0 p1 p2 (suc zero) h = p1
-three P p0 p1 p2 (suc (suc zero)) h = p2
-three P p0 p1 p2 (suc (suc (suc j))) h = absurd (omega arith)
 
 module _ (b : BlockSettings) (r : Range) (active coefs numbers : ℕ) (l : Lent) (w : Buffers) where
   pub taken-of : Passed b r active (readLengths coefs numbers l) (writeLengths w) → Taken b r active l w
@@ -207,7 +191,7 @@ module _ (b : BlockSettings) (r : Range) (active coefs numbers : ℕ) (l : Lent)
 
   -- with coefficients and numbers that come by value it's accepted too
   pub accepted-by-value : blockRefusal b r active (readLengths coefs numbers l) (writeLengths w) ≡ 0
-      → blockRefusal b r active (readLengths 36 13 l) (writeLengths w) ≡ 0
+      → blockRefusal b r active (readLengths coefsLength numbersLength l) (writeLengths w) ≡ 0
   accepted-by-value e =
       let p = passed b r active _ _ e in
       passes b r active _ _
@@ -223,9 +207,9 @@ module _ (b : BlockSettings) (r : Range) (active coefs numbers : ℕ) (l : Lent)
       })
 
 -- of a call
-module _ (c : Call) (ok : numberOf c ≡ 0) where
+module _ (c : Call) (ok : refusalOf c ≡ 0) where
   pub call-passed : Passed (c .settings) (c .range) (c .active) (readLengths (c .coefs) (c .numbers) (c .lent)) (writeLengths (c .before))
-  unfolding numberOf
+  unfolding refusalOf
   call-passed = passed (c .settings) (c .range) (c .active) _ _ ok
 
   pub call-taken : Taken (c .settings) (c .range) (c .active) (c .lent) (c .before)

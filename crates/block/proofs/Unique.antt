@@ -11,7 +11,7 @@ use Rattle.grid.proofs.CellLaws.{same-columns, same-blocks}
 use Rattle.grid.proofs.EachLaws.{each-unique}
 use Rattle.render.specs.Share.{Buffers, Columns, columnsOf}
 use Rattle.block.specs.declared.refusal.WriteLengths.{WriteLengths}
-use Rattle.block.specs.Call.{Call, Meets, writeLengths, numberOf, lanesOf}
+use Rattle.block.specs.Call.{Call, Meets, writeLengths, refusalOf, lanesOf}
 use Rattle.block.proofs.RefusalLaws.{call-taken}
 
 -- buffers of one length with the same columns are the same
@@ -77,14 +77,14 @@ module _ (c d : Call) (asked : Asked c d) (one : Meets c) (did : Meets d) where
       })
       did
 
-  same-number : numberOf (ended c d) ≡ numberOf c
-  unfolding numberOf
+  same-number : refusalOf (ended c d) ≡ refusalOf c
+  unfolding refusalOf
   same-number = refl
 
   pub same-after : c .after ≡ d .after
-  same-after = go (ℕ-discrete (numberOf c) 0)
+  same-after = go (ℕ-discrete (refusalOf c) 0)
     where
-      go : Dec (numberOf c ≡ 0) → c .after ≡ d .after
+      go : Dec (refusalOf c ≡ 0) → c .after ≡ d .after
       go (yes ok) =
           buffers-same (lanesOf c) (call-taken c ok .some) (c .after) (d .after)
           (one .sizes ∙ sym (two .sizes)) (each-unique (one .lanes ok) (two .lanes (same-number ∙ ok)))

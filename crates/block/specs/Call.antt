@@ -5,7 +5,8 @@ use mathlib.Core.Bool.{cond}
 use lib.Dec.{eqb}
 use lib.ListN.{length}
 use Rattle.grid.specs.Lanes.{Each}
-use Rattle.limits.specs.declared.Answer.{Answer}
+use Rattle.limits.specs.declared.answers.Answer.{Answer}
+use Rattle.controls.specs.Controls.{controlLengths}
 use Rattle.shaper.specs.declared.settings.Range.{Range}
 use Rattle.render.specs.declared.cells.BlockSettings.{BlockSettings}
 use Rattle.render.specs.Lane.{Lent, Inputs, inputsOf}
@@ -29,15 +30,7 @@ pub record Call : Type 0 where
 abbrev pub readLengths : ℕ → ℕ → Lent → ReadLengths
 readLengths coefs numbers r =
     record {
-      controls =
-          record {
-            base0 = length (r .base0);
-            base1 = length (r .base1);
-            mod0 = length (r .mod0);
-            mod1 = length (r .mod1);
-            source0 = length (r .source0);
-            source1 = length (r .source1);
-          };
+      controls = controlLengths (r .controls);
       curve = length (r .curve);
       cycle = length (r .cycle);
       words = length (r .words);
@@ -59,8 +52,8 @@ writeLengths b =
     }
 
 -- the number by the table
-unfoldable pub numberOf : Call → ℕ
-numberOf c = blockRefusal (c .settings) (c .range) (c .active) (readLengths (c .coefs) (c .numbers) (c .lent)) (writeLengths (c .before))
+unfoldable pub refusalOf : Call → ℕ
+refusalOf c = blockRefusal (c .settings) (c .range) (c .active) (readLengths (c .coefs) (c .numbers) (c .lent)) (writeLengths (c .before))
 
 abbrev pub lanesOf : Call → ℕ
 lanesOf c = c .settings .shaper .lanes
@@ -76,10 +69,10 @@ shareOf c lane = share (c .settings) (c .range) (inputs c lane)
 -- `lanes` is about every row of all six buffers: the range's output rows, every work row, every state cell; rows outside the range, cells
 -- past document 01's lengths and the lanes from `active` on are as before
 pub record Meets (c : Call) : Type 0 where
-  pub number : c .answer .number ≡ numberOf c
-  pub frames : c .answer .frames ≡ cond (eqb (numberOf c) 0) (c .range .count) 0
-  pub refused : (numberOf c ≡ 0 → ⊥) → c .after ≡ c .before
-  pub lanes : numberOf c ≡ 0 → Each (lanesOf c) 0 (c .active) (shareOf c) (columnsOf (lanesOf c) (c .before)) (columnsOf (lanesOf c) (c .after))
+  pub number : c .answer .number ≡ refusalOf c
+  pub frames : c .answer .frames ≡ cond (eqb (refusalOf c) 0) (c .range .count) 0
+  pub refused : (refusalOf c ≡ 0 → ⊥) → c .after ≡ c .before
+  pub lanes : refusalOf c ≡ 0 → Each (lanesOf c) 0 (c .active) (shareOf c) (columnsOf (lanesOf c) (c .before)) (columnsOf (lanesOf c) (c .after))
   pub sizes : writeLengths (c .after) ≡ writeLengths (c .before)
 
 abbrev pub called : BlockSettings → Range → ℕ → ℕ → ℕ → Lent → Buffers → Buffers → Answer → Call

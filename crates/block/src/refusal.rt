@@ -1,22 +1,33 @@
 // When a block run is turned down.
-use limits::coefs_short;
+use limits::COEFS_LENGTH;
+use limits::CURVE_LENGTH;
+use limits::CYCLE_LENGTH;
+use limits::ControlLengths;
+use limits::NUMBERS_LENGTH;
+use limits::carry_length;
+use limits::controls_short;
 use limits::counts_bad;
 use limits::factor_bad;
-use limits::frames_bad;
+use limits::first_line;
+use limits::host_length;
 use limits::lanes_bad;
+use limits::last_length;
 use limits::modes_bad;
-use limits::numbers_short;
+use limits::pairs_length;
 use limits::range_bad;
 use limits::rate_bad;
-use limits::spans_of;
+use limits::rendered_length;
+use limits::short;
+use limits::span_length;
+use limits::state_length;
 use render::BlockSettings;
-use shaper::ControlLengths;
 use shaper::Range;
 use shaper::Settings;
-use shaper::controls_short;
 ghost use mathlib.Core.Path.{_≡_};
 ghost use Prim.Native.Nat.{_≤_};
-ghost use Rattle.block.specs.Refusal.{rangeLine, countLine, readsShort, writesShort, blockRefusal};
+ghost use Rattle.limits.specs.Lines.{firstOf, numberLines, badFactor, badLanes, badRate};
+ghost use Rattle.shaper.specs.Refusal.{modeLine};
+ghost use Rattle.block.specs.Refusal.{rangeLine, countLine, lentShort, readsShort, writesShort, blockRefusal};
 
 // The lengths of what it is lent to read. `coefs` and `numbers` are 36 and 13 where those come by value.
 pub struct ReadLengths {
@@ -40,13 +51,6 @@ pub struct WriteLengths {
     pub dec: usize,
 }
 
-// Line 4.
-fn range_line(s: Settings, r: Range) -> bool
-    ensures { λ b. ⌜ b ≡ rangeLine s r ⌝ }
-{
-    frames_bad(s.frames) | range_bad(s.frames, r.first, r.count)
-}
-
 // Line 6.
 fn count_line(b: BlockSettings) -> bool
     ensures { λ r. ⌜ r ≡ countLine b ⌝ }
@@ -58,36 +62,55 @@ fn count_line(b: BlockSettings) -> bool
     counts_bad(last.count, middle.count, first.count)
 }
 
-// Line 7. The lines above it keep the products small.
+// Lines 1 to 6.
+fn numbers_refused(b: BlockSettings, r: Range, active: u32) -> u32
+    ensures { λ a. ⌜ a ≡ firstOf (numberLines (modeLine (b .shaper)) (badFactor (b .shaper .factor)) (badLanes (b .shaper .lanes) active) (rangeLine (b .shaper) r) (badRate (b .rate)) (countLine b)) ⌝ }
+{
+    let s = b.shaper;
+    first_line(
+        modes_bad(s.slot0.mode, s.slot1.mode),
+        factor_bad(s.factor),
+        lanes_bad(s.lanes, active),
+        range_bad(s.frames, r.first, r.count),
+        rate_bad(b.rate),
+        count_line(b),
+    )
+}
+
+// Line 7 but for what comes by value or on slices.
+fn lent_short(s: Settings, l: ReadLengths) -> bool
+    requires { ⌜ (s .frames ≤ 4096) × (s .factor ≤ 8) × (s .lanes ≤ 64) ⌝ }
+    ensures { λ r. ⌜ r ≡ lentShort s l ⌝ }
+{
+    let controls = l.controls;
+    let rows = rendered_length(s.frames, s.factor, s.lanes);
+    controls_short(s.frames, s.lanes, controls)
+        | short(CURVE_LENGTH, l.curve)
+        | short(CYCLE_LENGTH, l.cycle)
+        | short(rows, l.words)
+        | short(rows, l.steps)
+        | short(span_length(s.frames, s.lanes), l.inner)
+}
+
+// Line 7.
 fn reads_short(s: Settings, l: ReadLengths) -> bool
-    requires { ⌜ (s .lanes ≤ 64) × (s .frames ≤ 4096) × (s .factor ≤ 8) ⌝ }
+    requires { ⌜ (s .frames ≤ 4096) × (s .factor ≤ 8) × (s .lanes ≤ 64) ⌝ }
     ensures { λ r. ⌜ r ≡ readsShort s l ⌝ }
 {
-    let n = s.lanes as usize;
-    let rows = (s.frames * s.factor * s.lanes) as usize;
-    let cells = (spans_of(s.frames) * s.lanes) as usize;
-    controls_short(n, s.frames as usize, l.controls)
-        | (l.curve < 1025)
-        | (l.cycle < 2048)
-        | (l.words < rows)
-        | (l.steps < rows)
-        | (l.inner < cells)
-        | coefs_short(l.coefs)
-        | numbers_short(l.numbers)
+    lent_short(s, l) | short(COEFS_LENGTH, l.coefs) | short(NUMBERS_LENGTH, l.numbers)
 }
 
 // Line 8.
 fn writes_short(s: Settings, r: Range, l: WriteLengths) -> bool
-    requires { ⌜ (s .lanes ≤ 64) × (s .frames ≤ 4096) × (s .factor ≤ 8) × (r .count ≤ 4096) ⌝ }
+    requires { ⌜ (s .frames ≤ 4096) × (s .factor ≤ 8) × (s .lanes ≤ 64) × (r .count ≤ 4096) ⌝ }
     ensures { λ b. ⌜ b ≡ writesShort s r l ⌝ }
 {
-    let n = s.lanes as usize;
-    (l.output < (s.frames * s.lanes) as usize)
-        | (l.work < (r.count * s.factor * s.lanes) as usize)
-        | (l.pairs < 4 * n)
-        | (l.fm < 2 * n)
-        | (l.last < n)
-        | (l.dec < 72 * n)
+    short(host_length(s.frames, s.lanes), l.output)
+        | short(rendered_length(r.count, s.factor, s.lanes), l.work)
+        | short(pairs_length(s.lanes), l.pairs)
+        | short(carry_length(s.lanes), l.fm)
+        | short(last_length(s.lanes), l.last)
+        | short(state_length(s.lanes), l.dec)
 }
 
 // The number of a block run: the first line that holds, and 0 where it is accepted.
@@ -100,25 +123,11 @@ pub fn refused(
 ) -> u32
     ensures { λ a. ⌜ a ≡ blockRefusal b r active reads writes ⌝ }
 {
+    let number = numbers_refused(b, r, active);
+    if number != 0 {
+        return number;
+    }
     let s = b.shaper;
-    if modes_bad(s.slot0.mode, s.slot1.mode) {
-        return 1;
-    }
-    if factor_bad(s.factor) {
-        return 2;
-    }
-    if lanes_bad(s.lanes, active) {
-        return 3;
-    }
-    if range_line(s, r) {
-        return 4;
-    }
-    if rate_bad(b.rate) {
-        return 5;
-    }
-    if count_line(b) {
-        return 6;
-    }
     if reads_short(s, reads) {
         return 7;
     }

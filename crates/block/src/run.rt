@@ -3,13 +3,16 @@ use crate::refusal::ReadLengths;
 use crate::refusal::WriteLengths;
 use crate::refusal::refused;
 use limits::Answer;
+use limits::COEFS_LENGTH;
+use limits::ControlLengths;
+use limits::NUMBERS_LENGTH;
 use render::BlockSettings;
 use render::run_lane;
-use shaper::ControlLengths;
 use shaper::Range;
 ghost use mathlib.Core.Path.{_≡_};
 ghost use Prim.Native.Nat.{_≤_};
 ghost use Rattle.floats.specs.Exp2.{entries};
+ghost use Rattle.limits.specs.Lengths.{coefsLength, numbersLength};
 ghost use Rattle.render.specs.Promises.{lent, buffers, Limits, Readable, Writable, Shared};
 ghost use Rattle.block.specs.Call.{called, Meets};
 
@@ -97,7 +100,7 @@ pub fn block_run(
     last: &mut [f32],
     dec: &mut [f32],
 ) -> Answer
-    ensures { λ a. ⌜ Meets (called b r active 36 13
+    ensures { λ a. ⌜ Meets (called b r active coefsLength numbersLength
         (lent (now (base0 .entry)) (now (base1 .entry)) (now (mod0 .entry)) (now (mod1 .entry)) (now (source0 .entry)) (now (source1 .entry)) (now (curve .entry)) (now (cycle .entry)) (now (words .entry)) (now (steps .entry)) (now (inner .entry)))
         (buffers (now (output .entry)) (now (work .entry)) (now (pairs .entry)) (now (fm .entry)) (now (last .entry)) (now (dec .entry)))
         (buffers (now (output .exit)) (now (work .exit)) (now (pairs .exit)) (now (fm .exit)) (now (last .exit)) (now (dec .exit))) a) ⌝ }
@@ -116,8 +119,8 @@ pub fn block_run(
         words: words.len(),
         steps: steps.len(),
         inner: inner.len(),
-        coefs: 36,
-        numbers: 13,
+        coefs: COEFS_LENGTH,
+        numbers: NUMBERS_LENGTH,
     };
     let writes = WriteLengths {
         output: output.len(),

@@ -12,6 +12,7 @@ use Rattle.floats.specs.Steps.{_>>=_, if_then_else_}
 use Rattle.lanes.specs.Lane.{mulAdd}
 use Rattle.lanes.specs.Maths.{clampOf}
 use Rattle.grid.specs.Cells.{column}
+use Rattle.limits.specs.declared.lengths.ControlLengths.{ControlLengths}
 use Rattle.voice.specs.declared.control.Control.{Control}
 use Rattle.voice.specs.PhaseRun.{whole, isOwn}
 
@@ -67,13 +68,38 @@ pub record Controls : Type 0 where
   pub source0 : Option (List Float)
   pub source1 : Option (List Float)
 
-abbrev pub controlsOf : ℕ → ℕ → ℕ → List Float → List Float → List Float → List Float → List Float → List Float → Controls
-controlsOf n lane frames base0 base1 mod0 mod1 source0 source1 =
+-- base, modulation and sources as they are lent, for all lanes
+pub record ControlBuffers : Type 0 where
+  pub base0 : List Float
+  pub base1 : List Float
+  pub mod0 : List Float
+  pub mod1 : List Float
+  pub source0 : List Float
+  pub source1 : List Float
+
+abbrev pub controlBuffers : List Float → List Float → List Float → List Float → List Float → List Float → ControlBuffers
+controlBuffers base0 base1 mod0 mod1 source0 source1 =
+    record { base0 = base0; base1 = base1; mod0 = mod0; mod1 = mod1; source0 = source0; source1 = source1 }
+
+abbrev pub controlLengths : ControlBuffers → ControlLengths
+controlLengths b =
     record {
-      base0 = getD base0 lane nan;
-      base1 = getD base1 lane nan;
-      mod0 = lentOf n lane frames mod0;
-      mod1 = lentOf n lane frames mod1;
-      source0 = lentOf n lane frames source0;
-      source1 = lentOf n lane frames source1;
+      base0 = length (b .base0);
+      base1 = length (b .base1);
+      mod0 = length (b .mod0);
+      mod1 = length (b .mod1);
+      source0 = length (b .source0);
+      source1 = length (b .source1);
+    }
+
+-- a lane's numbers in them, in the rows that line 7 asks for
+abbrev pub controlsOf : ℕ → ℕ → ℕ → ControlBuffers → Controls
+controlsOf n lane frames b =
+    record {
+      base0 = getD (b .base0) lane nan;
+      base1 = getD (b .base1) lane nan;
+      mod0 = lentOf n lane frames (b .mod0);
+      mod1 = lentOf n lane frames (b .mod1);
+      source0 = lentOf n lane frames (b .source0);
+      source1 = lentOf n lane frames (b .source1);
     }

@@ -12,7 +12,8 @@ ghost use lib.ListN.{length, getD};
 ghost use lib.Ieee.{nan};
 ghost use Rattle.grid.specs.Cells.{column};
 ghost use Rattle.controls.specs.Controls.{lentOf, percentOf, amountAt, nextRow, betweenRows, sourceAt, heardAt, controlAt};
-ghost use Rattle.controls.specs.Places.{Spot, Holds};
+ghost use Rattle.limits.specs.Lengths.{Holds};
+ghost use Rattle.controls.specs.Places.{Spot};
 
 // A slot's amount in percent as 0 to 1.
 pub fn percent(amount: f32) -> f32

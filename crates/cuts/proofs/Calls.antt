@@ -15,7 +15,7 @@ use Rattle.grid.proofs.TableLaws.{same-table}
 use Rattle.grid.proofs.CellLaws.{col-of-blk}
 use Rattle.grid.proofs.EachLaws.{each-above}
 use Rattle.render.specs.Share.{Buffers, Columns, columnsOf}
-use Rattle.block.specs.Call.{Call, Meets, numberOf, lanesOf, inputs, shareOf}
+use Rattle.block.specs.Call.{Call, Meets, refusalOf, lanesOf, inputs, shareOf}
 use Rattle.block.proofs.RefusalLaws.{call-taken}
 use Rattle.cuts.specs.Cuts.{entering, leaving, Which, buffer, Carried, kept-back, lent-at, Around, rowsOf, Untouched, Outside}
 use Rattle.cuts.proofs.Accepted.{Good, good}
@@ -24,7 +24,7 @@ use Rattle.cuts.proofs.Share.{stateAfter, outputAt, share-state, share-
 
 -- ---- accepted
 
-module _ (c : Call) (ok : numberOf c ≡ 0) where
+module _ (c : Call) (ok : refusalOf c ≡ 0) where
   pub call-good : Good (c .settings)
   call-good = good (call-taken c ok .limits)
 
@@ -55,7 +55,7 @@ module _ (c : Call) (ok : numberOf c ≡ 0) where
     pub call-rows : rowsOf lane c
         ≡ table (c .range .count) (outputAt (c .settings) (inputs c lane) (c .range .first) (entering c lane))
     call-rows =
-        rw (eq-eqb (numberOf c) 0 ok)
+        rw (eq-eqb (refusalOf c) 0 ok)
         (same-table (c .range .count) _ _
         (λ k h.
         ap (λ (f : ℕ → Float). f (c .range .first + k)) output-shared
@@ -71,10 +71,10 @@ module _ (c : Call) (ok : numberOf c ≡ 0) where
 
 -- ---- refused
 
-module _ (c : Call) (bad : numberOf c ≡ 0 → ⊥) where
+module _ (c : Call) (bad : refusalOf c ≡ 0 → ⊥) where
   -- it gives no output
   pub refused-rows : (lane : ℕ) → rowsOf lane c ≡ []
-  refused-rows lane = rw (ne-eqb (numberOf c) 0 bad)
+  refused-rows lane = rw (ne-eqb (refusalOf c) 0 bad)
 
   -- and leaves every cell of the lane's state, wherever it was lent
   module _ (m : Meets c) where
@@ -89,16 +89,16 @@ module _ (c : Call) (bad : numberOf c ≡ 0 → ⊥) where
 
 module _ (c : Call) (m : Meets c) where
   -- a part of the lane's columns
-  idle : (part : Columns → ℕ → Float) → numberOf c ≡ 0 → (row lane : ℕ) → c .active ≤ lane → lane < lanesOf c
+  idle : (part : Columns → ℕ → Float) → refusalOf c ≡ 0 → (row lane : ℕ) → c .active ≤ lane → lane < lanesOf c
       → part (columnsOf (lanesOf c) (c .after) lane) row ≡ part (columnsOf (lanesOf c) (c .before) lane) row
   idle part ok row lane off low = ap (λ (v : Columns). part v row) (each-above (m .lanes ok) lane low off)
 
-  idle-blocks : numberOf c ≡ 0 → (lane : ℕ) → c .active ≤ lane → lane < lanesOf c
+  idle-blocks : refusalOf c ≡ 0 → (lane : ℕ) → c .active ≤ lane → lane < lanesOf c
       → blk nan 24 (lanesOf c) lane (c .after .dec) ≡ blk nan 24 (lanesOf c) lane (c .before .dec)
   unfolding columnsOf
   idle-blocks ok lane off low = ap (λ (v : Columns). v .dec) (each-above (m .lanes ok) lane low off)
 
-  idle-accepted : numberOf c ≡ 0 → Untouched c
+  idle-accepted : refusalOf c ≡ 0 → Untouched c
   unfolding columnsOf
   idle-accepted ok =
       record {
@@ -111,7 +111,7 @@ module _ (c : Call) (m : Meets c) where
             (col-of-blk nan 24 (lanesOf c) lane (c .after .dec) (c .before .dec) (omega arith) (idle-blocks ok lane off low));
       }
 
-  idle-refused : (numberOf c ≡ 0 → ⊥) → Untouched c
+  idle-refused : (refusalOf c ≡ 0 → ⊥) → Untouched c
   idle-refused bad =
       record {
         output = same Which.output;
@@ -126,9 +126,9 @@ module _ (c : Call) (m : Meets c) where
       same w row lane off low = ap (λ (b : Buffers). col nan (lanesOf c) lane (buffer w b) row) (m .refused bad)
 
   pub untouched : Untouched c
-  untouched = go (ℕ-discrete (numberOf c) 0)
+  untouched = go (ℕ-discrete (refusalOf c) 0)
     where
-      go : Dec (numberOf c ≡ 0) → Untouched c
+      go : Dec (refusalOf c ≡ 0) → Untouched c
       go (yes ok) = idle-accepted ok
       go (no bad) = idle-refused bad
 
@@ -137,7 +137,7 @@ module _ (c : Call) (m : Meets c) where
 pub outside : (c : Call) → Meets c → Outside c
 outside c m = record { rows = λ ok row lane low free. go ok row lane low free (decLt lane (c .active)) }
   where
-    go : numberOf c ≡ 0 → (row lane : ℕ) → lane < lanesOf c
+    go : refusalOf c ≡ 0 → (row lane : ℕ) → lane < lanesOf c
         → (c .range .first ≤ row → row < c .range .first + c .range .count → ⊥) → Dec (lane < c .active)
         → col nan (lanesOf c) lane (c .after .output) row ≡ col nan (lanesOf c) lane (c .before .output) row
     go ok row lane low free (yes on) = call-outside c ok m lane on row free

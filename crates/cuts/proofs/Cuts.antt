@@ -8,7 +8,7 @@ use lib.Ieee.{Float}
 use Rattle.grid.specs.Functions.{table}
 use Rattle.render.specs.declared.cells.BlockSettings.{BlockSettings}
 use Rattle.render.specs.Lane.{Inputs}
-use Rattle.block.specs.Call.{Call, Meets, numberOf, lanesOf, inputs}
+use Rattle.block.specs.Call.{Call, Meets, refusalOf, lanesOf, inputs}
 use Rattle.cuts.specs.Cuts.{entering, leaving, Alike, RunB, end, refuse, accept, rowsOf, outputOf, Untouched, Outside, Returned, AllOf, Demand3}
 use Rattle.cuts.proofs.Accepted.{Good}
 use Rattle.cuts.proofs.State.{columns-end, state-listed}
@@ -40,7 +40,7 @@ module _ (a : Call) (lane : ℕ) (good : Good (a .settings)) where
       (sym (state-none (a .settings) good (inputs a lane) 0 _ _ (columns-end (lanesOf a) lane (a .before))))
 
   -- an accepted call from host frame `at` and the block's state there
-  module _ (c : Call) (m : Meets c) (ok : numberOf c ≡ 0) (same : Alike a c lane)
+  module _ (c : Call) (m : Meets c) (ok : refusalOf c ≡ 0) (same : Alike a c lane)
       (at : ℕ) (from : c .range .first ≡ at) (lends : entering c lane ≡ state at) where
     next-state : leaving c lane ≡ state (at + c .range .count)
     next-state =

@@ -6,13 +6,14 @@ use native.Mathlib.Omega.{arith}
 use lib.ListN.{replicate}
 use Rattle.floats.specs.F32.{0f, half}
 use Rattle.lanes.specs.Numbers.{rustNumbers}
-use Rattle.limits.specs.Lines.{firstOf, spansOf}
+use Rattle.limits.specs.Lines.{firstOf}
+use Rattle.limits.specs.Lengths.{spansOf}
 use Rattle.halfband.specs.Floats.{cardDesigns}
 use Rattle.render.specs.declared.cells.BlockSettings.{BlockSettings}
 use Rattle.render.specs.Lane.{Lent}
 use Rattle.render.specs.Share.{Buffers}
 use Rattle.block.specs.Refusal.{blockRefusal}
-use Rattle.block.specs.Call.{Call, readLengths, writeLengths, numberOf}
+use Rattle.block.specs.Call.{Call, readLengths, writeLengths, refusalOf}
 use Rattle.cuts.specs.Cuts.{leaving, RunA, Agree, Demand3}
 use Rattle.cuts.proofs.Made.{made, met-by}
 use Rattle.cuts.proofs.Runs.{range, whole, firstPart, secondPart, refused-lent, in-two}
@@ -82,8 +83,8 @@ example-cut = cuts example 0 _ _ example-runs (in-two example 0 example-runs 4 (
 pub past-end : Call
 past-end = made settings (range 0 7) 1 36 13 lent before
 
-past-end-number : numberOf past-end ≡ 4
-unfolding past-end settings lent before numberOf blockRefusal firstOf cardDesigns spansOf
+past-end-number : refusalOf past-end ≡ 4
+unfolding past-end settings lent before refusalOf blockRefusal firstOf cardDesigns spansOf
 past-end-number = refl
 
 pub example-refused : Agree example 0 (past-end ∷ firstPart example 4 ∷ secondPart example 4 ∷ []) (leaving (secondPart example 4) 0)

@@ -24,7 +24,7 @@ use Rattle.render.specs.Share.{Buffers, Columns, columnsOf, share}
 use Rattle.render.specs.Promises.{Writable}
 use Rattle.block.specs.declared.refusal.WriteLengths.{WriteLengths}
 use Rattle.block.specs.Refusal.{blockRefusal}
-use Rattle.block.specs.Call.{Call, Meets, readLengths, writeLengths, numberOf}
+use Rattle.block.specs.Call.{Call, Meets, readLengths, writeLengths, refusalOf}
 use Rattle.block.proofs.RefusalLaws.{Taken, accepted}
 use Rattle.cuts.proofs.Accepted.{good}
 use Rattle.cuts.proofs.State.{columns-end}
@@ -210,7 +210,7 @@ module _ (settings : BlockSettings) (range : Range) (active coefs numbers : ℕ)
       go (no bad) = ap writeLengths (made-refused bad)
 
   pub met-by : Meets made
-  unfolding numberOf
+  unfolding refusalOf
   met-by =
       record {
         number = refl;

@@ -8,9 +8,9 @@ use native.Mathlib.Nat.{zero-add, add-zero, add-assoc, mul-le-mul-right}
 use native.Mathlib.Omega.{arith}
 use lib.ListN.{getD, length}
 use lib.Ieee.{Float, nan}
-use borrow.Author.Tests.{le-ltb}
 use Rattle.grid.specs.Cells.{column}
 use Rattle.grid.proofs.CellLaws.{col-at, length-column, getD-column}
+use Rattle.limits.proofs.LineLaws.{in-range}
 use Rattle.halfband.specs.Ranges.{total}
 use Rattle.shaper.specs.declared.settings.Range.{Range}
 use Rattle.render.specs.declared.cells.BlockSettings.{BlockSettings}
@@ -18,8 +18,8 @@ use Rattle.render.specs.Lane.{Lent}
 use Rattle.render.specs.Share.{Buffers}
 use Rattle.render.specs.Promises.{Writable}
 use Rattle.block.specs.Refusal.{blockRefusal}
-use Rattle.block.specs.Call.{Call, Meets, readLengths, writeLengths, numberOf, lanesOf}
-use Rattle.block.proofs.RefusalLaws.{Passed, passes, line-block, writable, not-short, call-passed}
+use Rattle.block.specs.Call.{Call, Meets, readLengths, writeLengths, refusalOf, lanesOf}
+use Rattle.block.proofs.RefusalLaws.{Passed, passes, line-frames, writable, all-long, call-passed}
 use Rattle.cuts.specs.Cuts.{stateOf, entering, leaving, Which, buffer, Carried, kept-back, lent-at, Around, RunA, RunB, end, refuse, accept}
 use Rattle.cuts.proofs.Made.{made, met-by, made-sizes}
 
@@ -32,7 +32,7 @@ range at count = record { first = at; count = count }
 pub whole : (settings : BlockSettings) (active coefs numbers : ℕ) (lent : Lent) (before : Buffers) (lane : ℕ)
     → blockRefusal settings (range 0 (settings .shaper .frames)) active (readLengths coefs numbers lent) (writeLengths before) ≡ 0
     → lane < active → RunA (made settings (range 0 (settings .shaper .frames)) active coefs numbers lent before) lane
-unfolding numberOf
+unfolding refusalOf
 whole settings active coefs numbers lent before lane ok on =
     record {
       meets = met-by settings (range 0 (settings .shaper .frames)) active coefs numbers lent before;
@@ -53,7 +53,7 @@ pub none : (a : Call) (lane : ℕ) → a .settings .shaper .frames ≡ 0 → Run
 none a lane e = end (sym e) refl
 
 -- a refused call in front, with the lane's state kept back
-pub refused-first : (a : Call) (lane at : ℕ) (s e : List Float) (cs : List Call) (c : Call) → Meets c → (numberOf c ≡ 0 → ⊥)
+pub refused-first : (a : Call) (lane at : ℕ) (s e : List Float) (cs : List Call) (c : Call) → Meets c → (refusalOf c ≡ 0 → ⊥)
     → RunB a lane at s cs e → RunB a lane at s (c ∷ cs) e
 refused-first a lane at s e cs c m bad run = refuse c m bad (record { size = refl; cells = λ i h. kept-back refl }) run
 
@@ -94,7 +94,7 @@ lent-whole c n lane =
     (around-column c n lane 72 Which.dec)
 
 -- a refused call in front that is lent the lane's state, in its own layout or any other
-pub refused-lent : (a : Call) (lane at : ℕ) (s e : List Float) (cs : List Call) (c : Call) (n place : ℕ) → Meets c → (numberOf c ≡ 0 → ⊥)
+pub refused-lent : (a : Call) (lane at : ℕ) (s e : List Float) (cs : List Call) (c : Call) (n place : ℕ) → Meets c → (refusalOf c ≡ 0 → ⊥)
     → stateOf n place (c .before) ≡ s → RunB a lane at s cs e → RunB a lane at s (c ∷ cs) e
 refused-lent a lane at s e cs c n place m bad lends run = refuse c m bad (subst₂ (Around c) lends back (lent-whole c n place)) run
   where
@@ -148,8 +148,8 @@ module _ (a : Call) (lane : ℕ) (w : RunA a lane) where
       }
 
   pub part-accepted : (at k : ℕ) (before : Buffers) → at + k ≤ F → writeLengths before ≡ writeLengths (a .before)
-      → numberOf (part a at k before) ≡ 0
-  unfolding numberOf
+      → refusalOf (part a at k before) ≡ 0
+  unfolding refusalOf
   part-accepted at k before fit size =
       rw size
       (passes (a .settings) (range at k) (a .active) _ _
@@ -157,11 +157,11 @@ module _ (a : Call) (lane : ℕ) (w : RunA a lane) where
         modes = lines .modes;
         factors = lines .factors;
         lanes = lines .lanes;
-        ranges = rw (line-block (a .settings .shaper) (a .range) (lines .ranges)) (le-ltb F (at + k) fit);
+        ranges = in-range F at k (line-frames (a .settings .shaper) (a .range) (lines .ranges)) fit;
         rates = lines .rates;
         counts = lines .counts;
         read = lines .read;
-        written = not-short (a .settings .shaper) (range at k) (a .before) (part-held at k fit);
+        written = all-long (a .settings .shaper) (range at k) (a .before) (part-held at k fit);
       }))
 
   pub in-parts-from : (at : ℕ) (before : Buffers) (ks : List ℕ) → at + total ks ≡ F → writeLengths before ≡ writeLengths (a .before)

@@ -12,7 +12,7 @@ use lib.Ieee.{Float, nan}
 use Rattle.grid.specs.Functions.{table}
 use Rattle.grid.specs.Cells.{col, column}
 use Rattle.render.specs.Share.{Buffers}
-use Rattle.block.specs.Call.{Call, Meets, numberOf, lanesOf, inputs}
+use Rattle.block.specs.Call.{Call, Meets, refusalOf, lanesOf, inputs}
 
 -- ---- a lane's state
 
@@ -66,7 +66,7 @@ pub record Alike (a c : Call) (lane : ℕ) : Type 0 where
 -- "Run A makes a block in one accepted call", the lane being active
 pub record RunA (a : Call) (lane : ℕ) : Type 0 where
   pub meets : Meets a
-  pub accepted : numberOf a ≡ 0
+  pub accepted : refusalOf a ≡ 0
   pub active : lane < a .active
   pub first : a .range .first ≡ 0
   pub count : a .range .count ≡ a .settings .shaper .frames
@@ -80,11 +80,11 @@ pub data RunB (a : Call) (lane : ℕ) : ℕ → List Float → List Call → Lis
   end : {at : ℕ} {s e : List Float} → at ≡ a .settings .shaper .frames → s ≡ e → RunB a lane at s [] e
   -- "Refused calls may stand anywhere, with any arguments"
   refuse : {at : ℕ} {s t e : List Float} {cs : List Call} (c : Call)
-      → Meets c → (numberOf c ≡ 0 → ⊥) → Around c s t → RunB a lane at t cs e → RunB a lane at s (c ∷ cs) e
+      → Meets c → (refusalOf c ≡ 0 → ⊥) → Around c s t → RunB a lane at t cs e → RunB a lane at s (c ∷ cs) e
   -- "The first accepted range starts at host frame 0, each next one where the one before ended" (the count may be 0), and "each accepted
   -- call of Run B gets it as the calls before left it"
   accept : {at : ℕ} {s e : List Float} {cs : List Call} (c : Call)
-      → Meets c → numberOf c ≡ 0 → Alike a c lane → c .range .first ≡ at → entering c lane ≡ s
+      → Meets c → refusalOf c ≡ 0 → Alike a c lane → c .range .first ≡ at → entering c lane ≡ s
       → RunB a lane (at + c .range .count) (leaving c lane) cs e → RunB a lane at s (c ∷ cs) e
 
 -- ---- what is compared
@@ -92,7 +92,7 @@ pub data RunB (a : Call) (lane : ℕ) : ℕ → List Float → List Call → Lis
 -- "the lane's output at each host frame, in Run B as the accepted call whose range holds that frame leaves it"
 abbrev pub rowsOf : ℕ → Call → List Float
 rowsOf lane c =
-    cond (eqb (numberOf c) 0) (table (c .range .count) (λ k. col nan (lanesOf c) lane (c .after .output) (c .range .first + k))) []
+    cond (eqb (refusalOf c) 0) (table (c .range .count) (λ k. col nan (lanesOf c) lane (c .after .output) (c .range .first + k))) []
 
 unfoldable pub outputOf : ℕ → List Call → List Float
 outputOf lane [] = []
@@ -111,13 +111,13 @@ pub record Untouched (c : Call) : Type 0 where
 
 -- "An accepted call leaves output rows outside its range as they were", in every lane
 pub record Outside (c : Call) : Type 0 where
-  pub rows : numberOf c ≡ 0 → (row lane : ℕ) → lane < lanesOf c
+  pub rows : refusalOf c ≡ 0 → (row lane : ℕ) → lane < lanesOf c
       → (c .range .first ≤ row → row < c .range .first + c .range .count → ⊥)
       → col nan (lanesOf c) lane (c .after .output) row ≡ col nan (lanesOf c) lane (c .before .output) row
 
 -- of a refused call: "what one is lent comes back as it was", every cell of the six written buffers
 abbrev pub Returned : Call → Type 0
-Returned c = (numberOf c ≡ 0 → ⊥) → c .after ≡ c .before
+Returned c = (refusalOf c ≡ 0 → ⊥) → c .after ≡ c .before
 
 -- of each call of a list
 unfoldable pub AllOf : (Call → Type 0) → List Call → Type 0

@@ -12,7 +12,7 @@ use borrow.Author.Tests.{ne-eqb}
 use Rattle.grid.specs.Cells.{col, blk}
 use Rattle.grid.proofs.CellLaws.{same-columns, same-blocks}
 use Rattle.grid.proofs.EachLaws.{each-unique}
-use Rattle.limits.specs.declared.Answer.{Answer}
+use Rattle.limits.specs.declared.answers.Answer.{Answer}
 use Rattle.limits.proofs.LineLaws.{good-lanes}
 use Rattle.halfband.specs.declared.design.Designs.{Designs}
 use Rattle.halfband.specs.Halfband.{View, view, views}

@@ -7,7 +7,7 @@ use native.Mathlib.Omega.{arith}
 use lib.Ieee.{Float}
 use Rattle.grid.specs.Lanes.{Each}
 use Rattle.grid.proofs.EachLaws.{each-id, each-none, each-same}
-use Rattle.limits.specs.declared.Answer.{Answer}
+use Rattle.limits.specs.declared.answers.Answer.{Answer}
 use Rattle.halfband.specs.declared.design.Designs.{Designs}
 use Rattle.halfband.specs.Halfband.{views, cascade}
 use Rattle.halfband.specs.Floats.{floats, designOf}

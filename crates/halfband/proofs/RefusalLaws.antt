@@ -1,14 +1,15 @@
 -- The laws of a decimation's refusals: what an accepted one has. Assumes nothing.
 use mathlib.Core.Path.{_≡_, refl}
 use mathlib.Core.Bool.{false, _||_}
-use Prim.Native.Nat.{ℕ, zero, suc, _*_, _^_, _≤_, _<_}
+use Prim.Native.Nat.{ℕ, zero, suc, _^_, _≤_, _<_}
 use native.Mathlib.Omega.{arith}
-use borrow.Author.Tests.{ltb-false}
-use Rattle.limits.specs.Lines.{firstOf, badFactor, badLanes, badFrames, badCounts, shortCoefs}
-use Rattle.limits.proofs.LineLaws.{first-passed, or-false, the-factor, good-lanes, good-frames, good-counts}
+use Rattle.limits.specs.Lines.{firstOf, numberLines, badFactor, badLanes, badFrames, badCounts}
+use Rattle.limits.specs.Lengths.{renderedLength, coefsLength, stateLength, shorter}
+use Rattle.limits.proofs.LineLaws.{thenLengths, whole-table, first-passed, or-false, the-factor, good-lanes, good-frames, good-counts}
+use Rattle.limits.proofs.LengthLaws.{long-enough}
 use Rattle.halfband.specs.declared.design.Designs.{Designs}
 use Rattle.halfband.specs.Floats.{designOf}
-use Rattle.halfband.specs.Refusal.{shortRows, shortState, refusal, stagesOf}
+use Rattle.halfband.specs.Refusal.{refusal, stagesOf}
 use Rattle.halfband.specs.Promises.{Taken}
 use Rattle.halfband.specs.Decimated.{callNumber}
 
@@ -22,11 +23,22 @@ good-factor =
     (omega arith, refl)
     (omega arith, refl)
 
-three : (P : ℕ → Type 0) → P 0 → P 1 → P 2 → (j : ℕ) → j < 3 → P j
+-- one of three
+pub three : (P : ℕ → Type 0) → P 0 → P 1 → P 2 → (j : ℕ) → j < 3 → P j
 three P p0 p1 p2 zero h = p0
 three P p0 p1 p2 (suc zero) h = p1
 three P p0 p1 p2 (suc (suc zero)) h = p2
 three P p0 p1 p2 (suc (suc (suc j))) h = absurd (omega arith)
+
+-- ---- the table, as the code goes through it
+pub table-is : (factor n active f count0 count1 count2 coefs buffer state : ℕ)
+    → refusal factor n active f count0 count1 count2 coefs buffer state
+    ≡ thenLengths (firstOf (numberLines false (badFactor factor) (badLanes n active) (badFrames f) false (badCounts count0 count1 count2)))
+    (shorter coefsLength coefs) (shorter (renderedLength f factor n) buffer || shorter (stateLength n) state)
+unfolding refusal firstOf
+table-is factor n active f count0 count1 count2 coefs buffer state =
+    whole-table false (badFactor factor) (badLanes n active) (badFrames f) false (badCounts count0 count1 count2)
+    (shorter coefsLength coefs) (shorter (renderedLength f factor n) buffer || shorter (stateLength n) state)
 
 -- ---- an accepted decimation
 
@@ -36,9 +48,9 @@ pub record Passed (ds : Designs) (coefs factor n active f buffer state : ℕ) : 
   pub lanes : badLanes n active ≡ false
   pub frames : badFrames f ≡ false
   pub counts : badCounts (designOf ds 0 .count) (designOf ds 1 .count) (designOf ds 2 .count) ≡ false
-  pub read : shortCoefs coefs ≡ false
-  pub rows : shortRows factor n f buffer ≡ false
-  pub cells : shortState n state ≡ false
+  pub read : shorter coefsLength coefs ≡ false
+  pub rows : shorter (renderedLength f factor n) buffer ≡ false
+  pub cells : shorter (stateLength n) state ≡ false
 
 module _ (ds : Designs) (coefs factor n active f buffer state : ℕ) where
   pub passed : Passed ds coefs factor n active f buffer state → callNumber ds coefs factor n active f buffer state ≡ 0
@@ -52,9 +64,9 @@ module _ (ds : Designs) (coefs factor n active f buffer state : ℕ) where
       let p3 = first-passed (badLanes n active) 2 _ (p2 .1) in
       let p4 = first-passed (badFrames f) 3 _ (p3 .1) in
       let p6 = first-passed (badCounts (designOf ds 0 .count) (designOf ds 1 .count) (designOf ds 2 .count)) 5 _ (p4 .1) in
-      let p7 = first-passed (shortCoefs coefs) 6 _ (p6 .1) in
-      let p8 = first-passed (shortRows factor n f buffer || shortState n state) 7 _ (p7 .1) in
-      let written = or-false (shortRows factor n f buffer) (shortState n state) (p8 .0) in
+      let p7 = first-passed (shorter coefsLength coefs) 6 _ (p6 .1) in
+      let p8 = first-passed (shorter (renderedLength f factor n) buffer || shorter (stateLength n) state) 7 _ (p7 .1) in
+      let written = or-false (shorter (renderedLength f factor n) buffer) (shorter (stateLength n) state) (p8 .0) in
       record {
         factors = p2 .0;
         lanes = p3 .0;
@@ -77,8 +89,8 @@ module _ (ds : Designs) (coefs factor n active f buffer state : ℕ) where
           few = lanes .1;
           frames = good-frames f (p .frames);
           counts = three (λ (j : ℕ). designOf ds j .count ≤ 12) (counts .0) (counts .1) (counts .2);
-          rows = rw (← factors .1) (ltb-false buffer (f * factor * n) (p .rows));
-          cells = ltb-false state (72 * n) (p .cells);
+          rows = rw (← factors .1) (long-enough (renderedLength f factor n) buffer (p .rows));
+          cells = long-enough (stateLength n) state (p .cells);
         },
         lanes .2,
       )

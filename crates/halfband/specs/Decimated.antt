@@ -7,7 +7,7 @@ use lib.Dec.{eqb}
 use lib.ListN.{length}
 use lib.Ieee.{Float}
 use Rattle.grid.specs.Lanes.{Each}
-use Rattle.limits.specs.declared.Answer.{Answer}
+use Rattle.limits.specs.declared.answers.Answer.{Answer}
 use Rattle.halfband.specs.declared.design.Designs.{Designs}
 use Rattle.halfband.specs.Halfband.{View, views, cascade}
 use Rattle.halfband.specs.Floats.{floats, designOf}

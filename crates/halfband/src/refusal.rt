@@ -1,20 +1,48 @@
 // When a decimation is turned down, and its stages.
-use limits::coefs_short;
+use limits::COEFS_LENGTH;
 use limits::counts_bad;
 use limits::factor_bad;
+use limits::first_line;
 use limits::frames_bad;
 use limits::lanes_bad;
+use limits::rendered_length;
+use limits::short;
+use limits::state_length;
 ghost use mathlib.Core.Path.{_≡_};
+ghost use mathlib.Core.Bool.{false, _||_};
 ghost use Prim.Native.Nat.{_≤_};
-ghost use mathlib.Core.Bool.{_||_};
-ghost use Rattle.halfband.specs.Refusal.{shortRows, shortState, refusal, stagesOf};
+ghost use Rattle.limits.specs.Lines.{firstOf, numberLines, badFactor, badLanes, badFrames, badCounts};
+ghost use Rattle.limits.specs.Lengths.{renderedLength, stateLength, shorter};
+ghost use Rattle.halfband.specs.Refusal.{refusal, stagesOf};
 
-// Line 8. The lines above it keep the products small.
-fn written_short(factor: u32, lanes: u32, frames: u32, buffer: usize, state: usize) -> bool
-    requires { ⌜ (factor ≤ 8) × (lanes ≤ 64) × (frames ≤ 4096) ⌝ }
-    ensures { λ r. ⌜ r ≡ (shortRows factor lanes frames buffer || shortState lanes state) ⌝ }
+// Lines 2 to 6.
+fn numbers_refused(
+    factor: u32,
+    lanes: u32,
+    active: u32,
+    frames: u32,
+    count0: u32,
+    count1: u32,
+    count2: u32,
+) -> u32
+    ensures { λ r. ⌜ r ≡ firstOf (numberLines false (badFactor factor) (badLanes lanes active) (badFrames frames) false (badCounts count0 count1 count2)) ⌝ }
 {
-    (buffer < (frames * factor * lanes) as usize) | (state < (72 * lanes) as usize)
+    first_line(
+        false,
+        factor_bad(factor),
+        lanes_bad(lanes, active),
+        frames_bad(frames),
+        false,
+        counts_bad(count0, count1, count2),
+    )
+}
+
+// Line 8.
+fn written_short(factor: u32, lanes: u32, frames: u32, buffer: usize, state: usize) -> bool
+    requires { ⌜ (frames ≤ 4096) × (factor ≤ 8) × (lanes ≤ 64) ⌝ }
+    ensures { λ r. ⌜ r ≡ (shorter (renderedLength frames factor lanes) buffer || shorter (stateLength lanes) state) ⌝ }
+{
+    short(rendered_length(frames, factor, lanes), buffer) | short(state_length(lanes), state)
 }
 
 // The number of a decimation: the first line that holds, and 0 where it is accepted. `coefs`, `buffer`
@@ -33,19 +61,11 @@ pub fn refused(
 ) -> u32
     ensures { λ r. ⌜ r ≡ refusal factor lanes active frames count0 count1 count2 coefs buffer state ⌝ }
 {
-    if factor_bad(factor) {
-        return 2;
+    let number = numbers_refused(factor, lanes, active, frames, count0, count1, count2);
+    if number != 0 {
+        return number;
     }
-    if lanes_bad(lanes, active) {
-        return 3;
-    }
-    if frames_bad(frames) {
-        return 4;
-    }
-    if counts_bad(count0, count1, count2) {
-        return 6;
-    }
-    if coefs_short(coefs) {
+    if short(COEFS_LENGTH, coefs) {
         return 7;
     }
     if written_short(factor, lanes, frames, buffer, state) {

@@ -1,11 +1,11 @@
 -- The laws of the table of refusals: what a call that passes a line has. Assumes nothing.
 use mathlib.Core.Path.{_≡_, refl}
-use mathlib.Core.Bool.{Bool, true, false, cond, _||_}
+use mathlib.Core.Bool.{Bool, true, false, cond, not, _||_}
 use mathlib.Core.List.{List, [], _∷_}
 use Prim.Native.Nat.{ℕ, suc, _+_, _*_, _≤_, _<_}
 use native.Mathlib.Omega.{arith}
 use lib.Dec.{ltb, eqb}
-use borrow.Author.Tests.{ltb-true, ltb-false, eqb-true, not-false}
+use borrow.Author.Tests.{ltb-true, ltb-false, le-ltb, eqb-true, not-false}
 use Rattle.limits.specs.Lines.{firstOf, numberLines, badMode, badModes, badFactor, badLanes, badLane, badFrames, badRange, badFrame, badAsked, badRate, badCount, badCounts}
 
 -- ---- any table
@@ -47,22 +47,19 @@ module _ (a b c d e f : Bool) where
       let p6 = first-passed f 5 _ (p5 .1) in
       record { modes = p1 .0; factor = p2 .0; lanes = p3 .0; frames = p4 .0; rate = p5 .0; counts = p6 .0 }
 
-  -- then lines 7 and 8 decide
-  pub by-lengths : Numbers → (g h : Bool) → firstOf (allLines g h) ≡ cond g 7 (cond h 8 0)
-  unfolding firstOf
-  by-lengths p g h = rw (p .modes, p .factor, p .lanes, p .frames, p .rate, p .counts)
+-- the number by lines 1 to 6, and where none of them holds by lines 7 and 8, as code goes through the table
+abbrev pub thenLengths : ℕ → Bool → Bool → ℕ
+thenLengths number g h = cond (eqb number 0) (cond g 7 (cond h 8 0)) number
 
--- a line of the first six that holds decides
-pub by-numbers : (a b c d e f g h : Bool) → (firstOf (numberLines a b c d e f) ≡ 0 → ⊥)
-    → firstOf (allLines a b c d e f g h) ≡ firstOf (numberLines a b c d e f)
+pub whole-table : (a b c d e f g h : Bool) → firstOf (allLines a b c d e f g h) ≡ thenLengths (firstOf (numberLines a b c d e f)) g h
 unfolding firstOf
-by-numbers true b c d e f g h n = refl
-by-numbers false true c d e f g h n = refl
-by-numbers false false true d e f g h n = refl
-by-numbers false false false true e f g h n = refl
-by-numbers false false false false true f g h n = refl
-by-numbers false false false false false true g h n = refl
-by-numbers false false false false false false g h n = absurd (n refl)
+whole-table true b c d e f g h = refl
+whole-table false true c d e f g h = refl
+whole-table false false true d e f g h = refl
+whole-table false false false true e f g h = refl
+whole-table false false false false true f g h = refl
+whole-table false false false false false true g h = refl
+whole-table false false false false false false g h = refl
 
 -- ---- the lines
 
@@ -101,23 +98,36 @@ good-lanes n active e =
     let q = or-false (ltb n 1) (ltb 64 n) (p .0) in
     (ltb-false n 1 (q .0), ltb-false 64 n (q .1), ltb-false n active (p .1))
 
-pub good-lane : (active lane : ℕ) → badLane active lane ≡ false → lane < active
-good-lane active lane e = ltb-true lane active (not-false (ltb lane active) e)
+pub good-lane : (n active lane : ℕ) → badLane n active lane ≡ false → (1 ≤ n) × (n ≤ 64) × (active ≤ n) × (lane < active)
+good-lane n active lane e =
+    let p = or-false (badLanes n active) (not (ltb lane active)) e in
+    let lanes = good-lanes n active (p .0) in
+    (lanes .0, lanes .1, lanes .2, ltb-true lane active (not-false (ltb lane active) (p .1)))
 
 pub good-frames : (f : ℕ) → badFrames f ≡ false → f ≤ 4096
 good-frames f e = ltb-false 4096 f e
 
-pub good-range : (frames first count : ℕ) → badRange frames first count ≡ false → first + count ≤ frames
-good-range frames first count e = ltb-false frames (first + count) e
+pub good-range : (frames first count : ℕ) → badRange frames first count ≡ false → (frames ≤ 4096) × (first + count ≤ frames)
+good-range frames first count e =
+    let p = or-false (badFrames frames) (ltb frames (first + count)) e in
+    (good-frames frames (p .0), ltb-false frames (first + count) (p .1))
 
-pub good-frame : (factor count frame : ℕ) → badFrame factor count frame ≡ false → frame < count * factor
-good-frame factor count frame e = ltb-true frame (count * factor) (not-false (ltb frame (count * factor)) e)
+pub in-range : (frames first count : ℕ) → frames ≤ 4096 → first + count ≤ frames → badRange frames first count ≡ false
+in-range frames first count few fit = rw (le-ltb 4096 frames few, le-ltb frames (first + count) fit)
 
-pub good-asked : (factor count first asked : ℕ) → badAsked factor count first asked ≡ false
-    → (first < count * factor) × (first + asked ≤ count * factor)
-good-asked factor count first asked e =
-    let p = or-false (badFrame factor count first) (ltb (count * factor) (first + asked)) e in
-    (good-frame factor count first (p .0), ltb-false (count * factor) (first + asked) (p .1))
+pub good-frame : (factor frames first count frame : ℕ) → badFrame factor frames first count frame ≡ false
+    → (frames ≤ 4096) × (first + count ≤ frames) × (frame < count * factor)
+good-frame factor frames first count frame e =
+    let p = or-false (badRange frames first count) (not (ltb frame (count * factor))) e in
+    let range = good-range frames first count (p .0) in
+    (range .0, range .1, ltb-true frame (count * factor) (not-false (ltb frame (count * factor)) (p .1)))
+
+pub good-asked : (factor frames first count from asked : ℕ) → badAsked factor frames first count from asked ≡ false
+    → (frames ≤ 4096) × (first + count ≤ frames) × (from < count * factor) × (from + asked ≤ count * factor)
+good-asked factor frames first count from asked e =
+    let p = or-false (badFrame factor frames first count from) (ltb (count * factor) (from + asked)) e in
+    let frame = good-frame factor frames first count from (p .0) in
+    (frame .0, frame .1, frame .2, ltb-false (count * factor) (from + asked) (p .1))
 
 pub good-rate : (rate : ℕ) → badRate rate ≡ false → (8000 ≤ rate) × (rate ≤ 192000)
 good-rate rate e =

@@ -6,9 +6,13 @@ use Prim.Native.Nat.{ℕ, _+_, _*_, _/_, _≤_}
 use lib.Dec.{ltb, eqb}
 use Rattle.limits.specs.declared.lengths.ControlLengths.{ControlLengths}
 
--- the sub-blocks of 32 host frames in a block, the last of which may be shorter: the rows of each prepared span
+-- SUB_BLOCK: the host frames that share a row of a prepared span
+abbrev pub subBlock : ℕ
+subBlock = 32
+
+-- the sub-blocks of a block, the last of which may be shorter: the rows of each prepared span
 unfoldable pub spansOf : ℕ → ℕ
-spansOf frames = (frames + 31) / 32
+spansOf frames = (frames + 31) / subBlock
 
 -- ---- lengths
 

@@ -26,25 +26,25 @@ badFactor factor = not (eqb factor 1 || eqb factor 2 || eqb factor 4 || eqb fact
 abbrev pub badLanes : ℕ → ℕ → Bool
 badLanes n active = ltb n 1 || ltb 64 n || ltb n active
 
--- 3: a single lane not active
-abbrev pub badLane : ℕ → ℕ → Bool
-badLane active lane = not (ltb lane active)
+-- 3: or a single lane not active
+abbrev pub badLane : ℕ → ℕ → ℕ → Bool
+badLane n active lane = badLanes n active || not (ltb lane active)
 
 -- 4: block above 4,096 host frames
 abbrev pub badFrames : ℕ → Bool
 badFrames frames = ltb 4096 frames
 
--- 4: a range past the block's end
+-- 4: or a range past the block's end
 abbrev pub badRange : ℕ → ℕ → ℕ → Bool
-badRange frames first count = ltb frames (first + count)
+badRange frames first count = badFrames frames || ltb frames (first + count)
 
--- 4: a single rendered frame outside its range, counted from the range's start
-abbrev pub badFrame : ℕ → ℕ → ℕ → Bool
-badFrame factor count frame = not (ltb frame (count * factor))
+-- 4: or a single rendered frame outside its range, counted from the range's start
+abbrev pub badFrame : ℕ → ℕ → ℕ → ℕ → ℕ → Bool
+badFrame factor frames first count frame = badRange frames first count || not (ltb frame (count * factor))
 
--- 4: `PhaseRun::stretch`: its first frame lies in the range even where none is asked for, and so do all that are asked for
-abbrev pub badAsked : ℕ → ℕ → ℕ → ℕ → Bool
-badAsked factor count first asked = badFrame factor count first || ltb (count * factor) (first + asked)
+-- 4: or one of those that `PhaseRun::stretch` is asked for; the first must lie in the range even where none is asked for
+abbrev pub badAsked : ℕ → ℕ → ℕ → ℕ → ℕ → ℕ → Bool
+badAsked factor frames first count from asked = badFrame factor frames first count from || ltb (count * factor) (from + asked)
 
 -- 5: host rate not 8,000..192,000 whole hertz
 abbrev pub badRate : ℕ → Bool

@@ -15,6 +15,9 @@ pub const COEFS_LENGTH: usize = 36;
 // The sine's five numbers and the arctangent's eight.
 pub const NUMBERS_LENGTH: usize = 13;
 
+// The host frames that share a row of a span.
+pub const SUB_BLOCK: usize = 32;
+
 // The lengths of base, modulation and sources of both slots.
 pub struct ControlLengths {
     pub base0: usize,
@@ -25,12 +28,12 @@ pub struct ControlLengths {
     pub source1: usize,
 }
 
-// How many sub-blocks of 32 host frames a block has.
-pub fn spans_of(frames: u32) -> u32
+// How many sub-blocks a block has.
+pub fn spans_of(frames: usize) -> usize
     requires { ⌜ frames ≤ 4096 ⌝ }
     ensures { λ r. ⌜ r ≡ spansOf frames ⌝ }
 {
-    (frames + 31) / 32
+    (frames + (SUB_BLOCK - 1)) / SUB_BLOCK
 }
 
 // A number for each host frame.
@@ -54,7 +57,7 @@ pub fn span_length(frames: u32, lanes: u32) -> usize
     requires { ⌜ (frames ≤ 4096) × (lanes ≤ 64) ⌝ }
     ensures { λ r. ⌜ r ≡ spanLength frames lanes ⌝ }
 {
-    (spans_of(frames) * lanes) as usize
+    spans_of(frames as usize) * lanes as usize
 }
 
 // The filter pairs.

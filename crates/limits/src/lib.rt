@@ -13,6 +13,7 @@ pub use lengths::CURVE_LENGTH;
 pub use lengths::CYCLE_LENGTH;
 pub use lengths::ControlLengths;
 pub use lengths::NUMBERS_LENGTH;
+pub use lengths::SUB_BLOCK;
 pub use lengths::carry_length;
 pub use lengths::controls_short;
 pub use lengths::host_length;

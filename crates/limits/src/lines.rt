@@ -32,10 +32,10 @@ pub fn lanes_bad(lanes: u32, active: u32) -> bool
 }
 
 // Line 3, for a call about a single lane.
-pub fn lane_bad(active: u32, lane: u32) -> bool
-    ensures { λ r. ⌜ r ≡ badLane active lane ⌝ }
+pub fn lane_bad(lanes: u32, active: u32, lane: u32) -> bool
+    ensures { λ r. ⌜ r ≡ badLane lanes active lane ⌝ }
 {
-    !(lane < active)
+    lanes_bad(lanes, active) | !(lane < active)
 }
 
 // Line 4.
@@ -49,7 +49,7 @@ pub fn frames_bad(frames: u32) -> bool
 pub fn range_bad(frames: u32, first: u32, count: u32) -> bool
     ensures { λ r. ⌜ r ≡ badRange frames first count ⌝ }
 {
-    (frames as u64) < first as u64 + count as u64
+    frames_bad(frames) | ((frames as u64) < first as u64 + count as u64)
 }
 
 // The rendered frames of a range. In u64 the product cannot wrap.
@@ -60,17 +60,25 @@ fn rendered(factor: u32, count: u32) -> u64
 }
 
 // Line 4, for a call about a single rendered frame of a range.
-pub fn frame_bad(factor: u32, count: u32, frame: u32) -> bool
-    ensures { λ r. ⌜ r ≡ badFrame factor count frame ⌝ }
+pub fn frame_bad(factor: u32, frames: u32, first: u32, count: u32, frame: u32) -> bool
+    ensures { λ r. ⌜ r ≡ badFrame factor frames first count frame ⌝ }
 {
-    !((frame as u64) < rendered(factor, count))
+    range_bad(frames, first, count) | !((frame as u64) < rendered(factor, count))
 }
 
 // Line 4, for `PhaseRun::stretch`.
-pub fn asked_bad(factor: u32, count: u32, first: u32, asked: u32) -> bool
-    ensures { λ r. ⌜ r ≡ badAsked factor count first asked ⌝ }
+pub fn asked_bad(
+    factor: u32,
+    frames: u32,
+    first: u32,
+    count: u32,
+    from: u32,
+    asked: u32,
+) -> bool
+    ensures { λ r. ⌜ r ≡ badAsked factor frames first count from asked ⌝ }
 {
-    frame_bad(factor, count, first) | (rendered(factor, count) < first as u64 + asked as u64)
+    frame_bad(factor, frames, first, count, from)
+        | (rendered(factor, count) < from as u64 + asked as u64)
 }
 
 // Line 5.

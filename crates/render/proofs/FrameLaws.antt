@@ -12,9 +12,10 @@ use Rattle.grid.specs.Cells.{column}
 use Rattle.grid.proofs.FunctionLaws.{span-none, span-more, span-join}
 use Rattle.grid.proofs.CellLaws.{col-set, col-set-other}
 use Rattle.grid.proofs.EachLaws.{each-one, one-lane, one-others}
-use Rattle.limits.specs.Lines.{spansOf}
+use Rattle.limits.specs.Lengths.{spansOf}
 use Rattle.halfband.specs.declared.design.Designs.{Designs}
 use Rattle.voice.specs.PhaseRun.{fmScale}
+use Rattle.voice.specs.SumRun.{summedOf}
 use Rattle.controls.specs.Controls.{Controls, lentOf, controlAt}
 use Rattle.shaper.specs.declared.settings.Settings.{Settings}
 use Rattle.shaper.specs.Lane.{control0At, control1At, readsAt, shapedAt}
@@ -23,7 +24,7 @@ use Rattle.render.specs.declared.cells.Voice.{Voice}
 use Rattle.render.specs.declared.cells.Stepped.{Stepped}
 use Rattle.render.specs.declared.cells.HostFrame.{HostFrame}
 use Rattle.render.specs.Lane.{Lent, Inputs, inputsOf, stepAt, voiceAfter, sampleAt}
-use Rattle.render.specs.Frames.{rawOf, frameOf, driveAt, hostAt, frameAt, Powered, Cut, Frames, Ran}
+use Rattle.render.specs.Frames.{frameOf, driveAt, hostAt, frameAt, Powered, Cut, Frames, Ran}
 use Rattle.render.proofs.InputLaws.{inputs-controls, inputs-inner, inputs-curve, inputs-cycle, inputs-words, inputs-steps}
 use Rattle.render.proofs.VoiceLaws.{voice-none, voice-more, voice-add, sample-is, sample-add}
 
@@ -40,7 +41,7 @@ pub step-frame : (b : BlockSettings) (i : Inputs) (host sub : ℕ) (v : Voice) �
     ≡ frameAt (b .shaper) (fmScale (b .rate) (b .shaper .factor))
     (hostAt (b .shaper) (i .controls .base0) (i .controls .base1) (i .controls .mod0) (i .controls .mod1) (i .inner) host)
     (i .controls .source0) (i .controls .source1) (i .curve) (i .cycle) (i .words) (i .steps) host sub v
-unfolding stepAt readsAt shapedAt control0At control1At controlAt frameAt frameOf rawOf hostAt driveAt _>>=_
+unfolding stepAt readsAt shapedAt control0At control1At controlAt frameAt frameOf summedOf hostAt driveAt _>>=_
 step-frame b i host sub v h = rw (host-of host (b .shaper .factor) sub h, sub-of host (b .shaper .factor) sub h)
 
 -- the same, by the inputs' own names
@@ -100,13 +101,13 @@ module _ {b : BlockSettings} {i : Inputs} {lane q row : ℕ} {v : Voice} {work :
 -- what `load_host` and `frame_at` return
 abbrev pub heldOf : Settings → Lent → ℕ → ℕ → HostFrame
 heldOf s l lane host =
-    hostAt s (getD (l .base0) lane nan) (getD (l .base1) lane nan)
-    (lentOf (s .lanes) lane (s .frames) (l .mod0)) (lentOf (s .lanes) lane (s .frames) (l .mod1))
+    hostAt s (getD (l .controls .base0) lane nan) (getD (l .controls .base1) lane nan)
+    (lentOf (s .lanes) lane (s .frames) (l .controls .mod0)) (lentOf (s .lanes) lane (s .frames) (l .controls .mod1))
     (column nan (s .lanes) lane (spansOf (s .frames)) (l .inner)) host
 
 abbrev pub steppedOf : Settings → Float → Lent → ℕ → ℕ → HostFrame → ℕ → Voice → Stepped
 steppedOf s scale l lane host h sub v =
-    frameAt s scale h (lentOf (s .lanes) lane (s .frames) (l .source0)) (lentOf (s .lanes) lane (s .frames) (l .source1)) (l .curve) (l .cycle)
+    frameAt s scale h (lentOf (s .lanes) lane (s .frames) (l .controls .source0)) (lentOf (s .lanes) lane (s .frames) (l .controls .source1)) (l .curve) (l .cycle)
     (column 0 (s .lanes) lane (s .frames * s .factor) (l .words)) (column 0 (s .lanes) lane (s .frames * s .factor) (l .steps)) host sub v
 
 pub powered : (s : Settings) (l : Lent) (lane host : ℕ) (h : HostFrame) → h ≡ heldOf s l lane host → Powered s h

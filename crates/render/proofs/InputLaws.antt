@@ -10,8 +10,8 @@ use lib.Ieee.{nan}
 use Rattle.grid.specs.Cells.{column}
 use Rattle.grid.proofs.CellLaws.{col-at, getD-column}
 use Rattle.grid.proofs.Index.{row-in, whole-row}
-use Rattle.limits.specs.Lines.{spansOf}
-use Rattle.limits.proofs.LineLaws.{span-in}
+use Rattle.limits.specs.Lengths.{spansOf}
+use Rattle.limits.proofs.LengthLaws.{span-in}
 use Rattle.controls.specs.Controls.{controlsOf}
 use Rattle.controls.specs.Places.{Spot}
 use Rattle.shaper.specs.declared.settings.Settings.{Settings}
@@ -58,15 +58,15 @@ module _ {s : Settings} {lane host row work : ℕ} (room : Room s lane host row 
 
   -- what it reads
   pub framed : {l : Lent} → Readable s l
-      → Framed s lane host sub (length (l .source0)) (length (l .source1)) (length (l .curve)) (length (l .cycle)) (length (l .words)) (length (l .steps))
+      → Framed s lane host sub (length (l .controls .source0)) (length (l .controls .source1)) (length (l .curve)) (length (l .cycle)) (length (l .words)) (length (l .steps))
   framed {l} readable =
       let q = host * s .factor + sub in
       let at : q * s .lanes + lane < s .frames * s .factor * s .lanes = row-in q (s .frames * s .factor) lane (s .lanes) frame-in (room .spot .inside) in
       let last : q ≤ 32767 = omega (arith, frame-in, frames-few) in
       record {
         spot = room .spot;
-        held0 = readable .source0;
-        held1 = readable .source1;
+        held0 = readable .controls .source0;
+        held1 = readable .controls .source1;
         entries = readable .curve;
         samples = readable .cycle;
         inside = frame-in;
@@ -77,14 +77,14 @@ module _ {s : Settings} {lane host row work : ℕ} (room : Room s lane host row 
       }
 
 pub hosted : {s : Settings} {lane host : ℕ} {l : Lent} → Spot (s .frames) (s .lanes) lane host → Readable s l
-    → Hosted s lane host (length (l .base0)) (length (l .base1)) (length (l .mod0)) (length (l .mod1)) (length (l .inner))
+    → Hosted s lane host (length (l .controls .base0)) (length (l .controls .base1)) (length (l .controls .mod0)) (length (l .controls .mod1)) (length (l .inner))
 hosted spot readable =
     record {
       spot = spot;
-      first = readable .base0;
-      second = readable .base1;
-      held0 = readable .mod0;
-      held1 = readable .mod1;
+      first = readable .controls .base0;
+      second = readable .controls .base1;
+      held0 = readable .controls .mod0;
+      held1 = readable .controls .mod1;
       spans = readable .inner;
     }
 
@@ -110,7 +110,7 @@ module _ {b : BlockSettings} {r : Range} (limits : Limits b r) (k : ℕ) (less :
 -- ---- as the code takes them
 
 module _ (s : Settings) (l : Lent) (lane : ℕ) where
-  pub inputs-controls : inputsOf s l lane .controls ≡ controlsOf (s .lanes) lane (s .frames) (l .base0) (l .base1) (l .mod0) (l .mod1) (l .source0) (l .source1)
+  pub inputs-controls : inputsOf s l lane .controls ≡ controlsOf (s .lanes) lane (s .frames) (l .controls)
   unfolding inputsOf
   inputs-controls = refl
 

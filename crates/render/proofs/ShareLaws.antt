@@ -69,12 +69,7 @@ module _ {first count n lane work output : ℕ} (rows : Copied first count n lan
 abbrev pub cutLent : Lent → Lent
 cutLent l =
     record {
-      base0 = l .base0;
-      base1 = l .base1;
-      mod0 = l .mod0;
-      mod1 = l .mod1;
-      source0 = l .source0;
-      source1 = l .source1;
+      controls = l .controls;
       curve = take 1025 (l .curve);
       cycle = take 2048 (l .cycle);
       words = l .words;
@@ -95,12 +90,7 @@ pub cut-readable : {s : Settings} (l : Lent) → Readable s l → Readable s (cu
 cut-readable l readable =
     let cut = cut-tables l readable in
     record {
-      base0 = readable .base0;
-      base1 = readable .base1;
-      mod0 = readable .mod0;
-      mod1 = readable .mod1;
-      source0 = readable .source0;
-      source1 = readable .source1;
+      controls = readable .controls;
       curve = omega (arith, cut .entries);
       cycle = omega (arith, cut .samples);
       words = readable .words;

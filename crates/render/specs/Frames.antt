@@ -10,34 +10,27 @@ use Rattle.floats.specs.Steps.{_>>=_}
 use Rattle.grid.specs.Functions.{span}
 use Rattle.grid.specs.Cells.{columns}
 use Rattle.grid.specs.Lanes.{Each}
-use Rattle.limits.specs.Lines.{spansOf}
+use Rattle.limits.specs.Lengths.{subBlock, hostLength, spanLength, curveLength, cycleLength, Holds}
 use Rattle.halfband.specs.declared.design.Designs.{Designs}
-use Rattle.phase.specs.Reads.{readSum}
 use Rattle.voice.specs.declared.control.Control.{Control}
 use Rattle.voice.specs.PhaseRun.{fmScale, readsOf}
+use Rattle.voice.specs.SumRun.{summedOf}
 use Rattle.voice.specs.WaveRun.{shapedOf}
 use Rattle.voice.specs.Power.{powerOf}
 use Rattle.controls.specs.Controls.{isGiven, amountAt, heardAt}
-use Rattle.controls.specs.Places.{Spot, Holds}
+use Rattle.controls.specs.Places.{Spot}
 use Rattle.shaper.specs.declared.settings.Settings.{Settings}
 use Rattle.render.specs.declared.cells.BlockSettings.{BlockSettings}
 use Rattle.render.specs.declared.cells.Voice.{Voice}
-use Rattle.render.specs.declared.cells.Raw.{Raw}
 use Rattle.render.specs.declared.cells.Stepped.{Stepped}
 use Rattle.render.specs.declared.cells.Drive.{Drive}
 use Rattle.render.specs.declared.cells.HostFrame.{HostFrame}
 use Rattle.render.specs.Lane.{Inputs, voiceAfter, sampleAt}
 
--- what a lane reads of the cycle, and the FM carry after it
-unfoldable pub rawOf : Settings → Float → List Float → List Float → Control → Control → Float → ℕ → ℕ → Float → Float → Raw
-rawOf s scale curve cycle control0 control1 inner word step fm0 fm1 = do
-  reads ← readsOf (s .numbers .sin) (s .numbers .atan) curve (s .slot0) (s .slot1) (s .factor) scale control0 control1 inner word step fm0 fm1
-  record { x = readSum cycle (reads .reads); fm0 = reads .fm0; fm1 = reads .fm1 }
-
 -- one rendered frame, from what drives the slots, the prepared slope, the phase word and its step
 unfoldable pub frameOf : Settings → Float → List Float → List Float → Control → Control → Float → ℕ → ℕ → Voice → Stepped
 frameOf s scale curve cycle control0 control1 inner word step v = do
-  raw ← rawOf s scale curve cycle control0 control1 inner word step (v .fm0) (v .fm1)
+  raw ← summedOf cycle (readsOf (s .numbers .sin) (s .numbers .atan) curve (s .slot0) (s .slot1) (s .factor) scale control0 control1 inner word step (v .fm0) (v .fm1))
   shaped ← shapedOf (s .numbers .sin) (s .slot0) (s .slot1) control0 control1 step (raw .x) (v .pairs0) (v .pairs1) (v .last)
   record {
     sample = shaped .y;
@@ -55,7 +48,7 @@ hostAt s base0 base1 mod0 mod1 inner host =
     record {
       drive0 = driveAt (s .slot0 .mode) base0 mod0 host;
       drive1 = driveAt (s .slot1 .mode) base1 mod1 host;
-      inner = getD inner (host / 32) nan;
+      inner = getD inner (host / subBlock) nan;
     }
 
 -- a slot's amount, and what it hears
@@ -87,17 +80,17 @@ pub record Hosted (s : Settings) (lane host base0 base1 mod0 mod1 inner : ℕ) :
   pub spot : Spot (s .frames) (s .lanes) lane host
   pub first : s .lanes ≤ base0
   pub second : s .lanes ≤ base1
-  pub held0 : Holds (s .frames * s .lanes) mod0
-  pub held1 : Holds (s .frames * s .lanes) mod1
-  pub spans : spansOf (s .frames) * s .lanes ≤ inner
+  pub held0 : Holds (hostLength (s .frames) (s .lanes)) mod0
+  pub held1 : Holds (hostLength (s .frames) (s .lanes)) mod1
+  pub spans : spanLength (s .frames) (s .lanes) ≤ inner
 
 -- a rendered frame of a lane: its cells of words and steps are there
 pub record Framed (s : Settings) (lane host sub source0 source1 curve cycle words steps : ℕ) : Type 0 where
   pub spot : Spot (s .frames) (s .lanes) lane host
-  pub held0 : Holds (s .frames * s .lanes) source0
-  pub held1 : Holds (s .frames * s .lanes) source1
-  pub entries : 1025 ≤ curve
-  pub samples : 2048 ≤ cycle
+  pub held0 : Holds (hostLength (s .frames) (s .lanes)) source0
+  pub held1 : Holds (hostLength (s .frames) (s .lanes)) source1
+  pub entries : curveLength ≤ curve
+  pub samples : cycleLength ≤ cycle
   pub inside : host * s .factor + sub < s .frames * s .factor
   pub few : s .frames * s .factor ≤ 32768
   pub near : (host * s .factor + sub) * s .lanes + lane < 2097152
@@ -106,8 +99,8 @@ pub record Framed (s : Settings) (lane host sub source0 source1 curve cycle word
 
 -- tables that are cut to what line 7 asks for
 pub record Cut (curve cycle : ℕ) : Type 0 where
-  pub entries : curve ≡ 1025
-  pub samples : cycle ≡ 2048
+  pub entries : curve ≡ curveLength
+  pub samples : cycle ≡ cycleLength
 
 -- the work rows of a host frame
 pub record Room (s : Settings) (lane host row work : ℕ) : Type 0 where

@@ -6,11 +6,11 @@ use lib.ListN.{getD, take}
 use lib.Ieee.{Float, nan}
 use Rattle.floats.specs.Steps.{_>>=_}
 use Rattle.grid.specs.Cells.{column}
-use Rattle.limits.specs.Lines.{spansOf}
+use Rattle.limits.specs.Lengths.{spansOf, curveLength, cycleLength}
 use Rattle.phase.specs.Reads.{readSum}
 use Rattle.voice.specs.declared.phase_run.Reads.{Reads}
 use Rattle.voice.specs.declared.wave_run.Shaped.{Shaped}
-use Rattle.controls.specs.Controls.{Controls, controlsOf}
+use Rattle.controls.specs.Controls.{Controls, ControlBuffers, controlsOf}
 use Rattle.shaper.specs.declared.settings.Settings.{Settings}
 use Rattle.shaper.specs.Lane.{readsAt, shapedAt, pair0, pair1}
 use Rattle.render.specs.declared.cells.BlockSettings.{BlockSettings}
@@ -19,12 +19,7 @@ use Rattle.render.specs.declared.cells.Stepped.{Stepped}
 
 -- all buffers that a block run is lent to read
 pub record Lent : Type 0 where
-  pub base0 : List Float
-  pub base1 : List Float
-  pub mod0 : List Float
-  pub mod1 : List Float
-  pub source0 : List Float
-  pub source1 : List Float
+  pub controls : ControlBuffers
   pub curve : List Float
   pub cycle : List Float
   pub words : List ℕ
@@ -44,12 +39,12 @@ pub record Inputs : Type 0 where
 unfoldable pub inputsOf : Settings → Lent → ℕ → Inputs
 inputsOf s r lane =
     record {
-      controls = controlsOf (s .lanes) lane (s .frames) (r .base0) (r .base1) (r .mod0) (r .mod1) (r .source0) (r .source1);
+      controls = controlsOf (s .lanes) lane (s .frames) (r .controls);
       inner = column nan (s .lanes) lane (spansOf (s .frames)) (r .inner);
       words = column 0 (s .lanes) lane (s .frames * s .factor) (r .words);
       steps = column 0 (s .lanes) lane (s .frames * s .factor) (r .steps);
-      curve = take 1025 (r .curve);
-      cycle = take 2048 (r .cycle);
+      curve = take curveLength (r .curve);
+      cycle = take cycleLength (r .cycle);
     }
 
 -- a lane's filter pairs, FM carry and `last`, from its columns

@@ -4,6 +4,7 @@ use mathlib.Core.List.{List}
 use Prim.Native.Nat.{ℕ, _+_, _*_, _≤_, _<_}
 use lib.Ieee.{Float}
 use Rattle.grid.specs.Cells.{col}
+use Rattle.limits.specs.Lengths.{cycleLength}
 use Rattle.phase.specs.Reads.{cycleAt}
 use Rattle.wave.specs.Slot.{inWave}
 use Rattle.voice.specs.PhaseRun.{inPhase}
@@ -21,6 +22,6 @@ pub record Unshaped (from count n lane cycle words work : ℕ) : Type 0 where
   pub inside : lane < n
   pub few : n ≤ 64
   pub frames : from + count ≤ 32768
-  pub samples : 2048 ≤ cycle
+  pub samples : cycleLength ≤ cycle
   pub read : (from + count) * n ≤ words
   pub written : count * n ≤ work

@@ -7,10 +7,10 @@ use lib.Ieee.{Float, nan}
 use Rattle.grid.specs.Functions.{upd}
 use Rattle.grid.specs.Cells.{columns}
 use Rattle.grid.specs.Lanes.{Each}
-use Rattle.limits.specs.Lines.{spansOf}
+use Rattle.limits.specs.Lengths.{hostLength, renderedLength, spanLength, curveLength, cycleLength, pairsLength, carryLength, lastLength, stateLength, ControlsHeld}
+use Rattle.controls.specs.Controls.{controlBuffers, controlLengths}
 use Rattle.halfband.specs.Floats.{designOf}
 use Rattle.halfband.specs.Refusal.{stagesOf}
-use Rattle.controls.specs.Places.{Holds}
 use Rattle.shaper.specs.declared.settings.Settings.{Settings}
 use Rattle.shaper.specs.declared.settings.Range.{Range}
 use Rattle.shaper.specs.Lane.{putPairs, putCarry}
@@ -23,12 +23,7 @@ use Rattle.render.specs.Share.{Buffers, columnsOf, share}
 abbrev pub lent : List Float → List Float → List Float → List Float → List Float → List Float → List Float → List Float → List ℕ → List ℕ → List Float → Lent
 lent base0 base1 mod0 mod1 source0 source1 curve cycle words steps inner =
     record {
-      base0 = base0;
-      base1 = base1;
-      mod0 = mod0;
-      mod1 = mod1;
-      source0 = source0;
-      source1 = source1;
+      controls = controlBuffers base0 base1 mod0 mod1 source0 source1;
       curve = curve;
       cycle = cycle;
       words = words;
@@ -53,26 +48,21 @@ pub record Limits (b : BlockSettings) (r : Range) : Type 0 where
 
 -- buffers to read that are long enough
 pub record Readable (s : Settings) (l : Lent) : Type 0 where
-  pub base0 : s .lanes ≤ length (l .base0)
-  pub base1 : s .lanes ≤ length (l .base1)
-  pub mod0 : Holds (s .frames * s .lanes) (length (l .mod0))
-  pub mod1 : Holds (s .frames * s .lanes) (length (l .mod1))
-  pub source0 : Holds (s .frames * s .lanes) (length (l .source0))
-  pub source1 : Holds (s .frames * s .lanes) (length (l .source1))
-  pub curve : 1025 ≤ length (l .curve)
-  pub cycle : 2048 ≤ length (l .cycle)
-  pub words : s .frames * s .factor * s .lanes ≤ length (l .words)
-  pub steps : s .frames * s .factor * s .lanes ≤ length (l .steps)
-  pub inner : spansOf (s .frames) * s .lanes ≤ length (l .inner)
+  pub controls : ControlsHeld (s .frames) (s .lanes) (controlLengths (l .controls))
+  pub curve : curveLength ≤ length (l .curve)
+  pub cycle : cycleLength ≤ length (l .cycle)
+  pub words : renderedLength (s .frames) (s .factor) (s .lanes) ≤ length (l .words)
+  pub steps : renderedLength (s .frames) (s .factor) (s .lanes) ≤ length (l .steps)
+  pub inner : spanLength (s .frames) (s .lanes) ≤ length (l .inner)
 
 -- and buffers to write
 pub record Writable (s : Settings) (r : Range) (w : Buffers) : Type 0 where
-  pub output : s .frames * s .lanes ≤ length (w .output)
-  pub work : r .count * s .factor * s .lanes ≤ length (w .work)
-  pub pairs : 4 * s .lanes ≤ length (w .pairs)
-  pub fm : 2 * s .lanes ≤ length (w .fm)
-  pub last : s .lanes ≤ length (w .last)
-  pub dec : 72 * s .lanes ≤ length (w .dec)
+  pub output : hostLength (s .frames) (s .lanes) ≤ length (w .output)
+  pub work : renderedLength (r .count) (s .factor) (s .lanes) ≤ length (w .work)
+  pub pairs : pairsLength (s .lanes) ≤ length (w .pairs)
+  pub fm : carryLength (s .lanes) ≤ length (w .fm)
+  pub last : lastLength (s .lanes) ≤ length (w .last)
+  pub dec : stateLength (s .lanes) ≤ length (w .dec)
 
 -- the rows that are copied
 pub record Copied (first count n lane work output : ℕ) : Type 0 where

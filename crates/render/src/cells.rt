@@ -32,13 +32,6 @@ pub struct Voice {
     pub last: f32,
 }
 
-// A rendered frame's reading of the cycle, and the FM carry after it.
-pub struct Raw {
-    pub x: f32,
-    pub fm0: f32,
-    pub fm1: f32,
-}
-
 // A rendered frame's sample, and the state after it.
 pub struct Stepped {
     pub sample: f32,

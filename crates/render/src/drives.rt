@@ -9,7 +9,8 @@ ghost use Prim.Native.Nat.{_*_};
 ghost use lib.ListN.{length};
 ghost use Rattle.floats.specs.Exp2.{entries};
 ghost use Rattle.controls.specs.Controls.{lentOf};
-ghost use Rattle.controls.specs.Places.{Spot, Holds};
+ghost use Rattle.limits.specs.Lengths.{Holds};
+ghost use Rattle.controls.specs.Places.{Spot};
 ghost use Rattle.render.specs.Frames.{driveAt};
 
 // Without modulation: the same at every host frame, so that it is worked out once for a range.

@@ -6,6 +6,8 @@ use crate::frames::render_lane;
 use grid::place;
 use halfband::decimate_lane;
 use halfband::stages_of;
+use limits::CURVE_LENGTH;
+use limits::CYCLE_LENGTH;
 use shaper::Range;
 ghost use mathlib.Core.Path.{_≡_};
 ghost use Prim.Native.Nat.{_+_, _<_};
@@ -71,8 +73,8 @@ pub fn run_lane(
     let count = r.count as usize;
     // The tables in just the entries that are asked for: past them nothing is read.
     let zero = 0usize;
-    let entries = 1025usize;
-    let samples = 2048usize;
+    let entries = CURVE_LENGTH;
+    let samples = CYCLE_LENGTH;
     let table = &curve[zero..entries];
     let wave = &cycle[zero..samples];
     let v = load_voice(n, lane, pairs, fm, last);

@@ -1,7 +1,9 @@
 // One lane's whole share of a range of a block: `render_oversampled` of mod.rs, lane by lane.
 pub mod cells;
 pub mod drives;
+pub mod frame;
 pub mod frames;
+pub mod host;
 pub mod lane;
 pub mod plain;
 

@@ -9,20 +9,21 @@ use borrow.Author.Tests.{ne-eqb}
 use Rattle.floats.specs.F32.{0f}
 use Rattle.grid.proofs.CellLaws.{same-columns}
 use Rattle.grid.proofs.EachLaws.{each-unique}
-use Rattle.limits.specs.declared.Valued.{Valued}
+use Rattle.limits.specs.declared.answers.Valued.{Valued}
 use Rattle.phase.specs.declared.reads.LaneReads.{LaneReads}
+use Rattle.controls.specs.Controls.{ControlBuffers, controlLengths}
 use Rattle.shaper.specs.declared.settings.Settings.{Settings}
 use Rattle.shaper.specs.declared.settings.Range.{Range}
 use Rattle.shaper.specs.declared.single.ReadsAnswer.{ReadsAnswer}
 use Rattle.shaper.specs.Refusal.{readsRefusal, sampleRefusal}
-use Rattle.shaper.specs.ReadsCall.{Lent, controlLengths, noReads, readsTaken, ReadsCall}
+use Rattle.shaper.specs.ReadsCall.{noReads, readsTaken, ReadsCall}
 use Rattle.shaper.specs.SampleCall.{sampleTaken, SampleCall}
 use Rattle.shaper.specs.Taken.{ReadsTaken, SampleTaken}
 use Rattle.shaper.proofs.RefusalLaws.{reads-accepted, sample-accepted}
 
 -- ---- a read list
 
-module _ (s : Settings) (rate active lane : ℕ) (r : Range) (frame word step : ℕ) (l : Lent) (curve inner fm last : List Float) where
+module _ (s : Settings) (rate active lane : ℕ) (r : Range) (frame word step : ℕ) (l : ControlBuffers) (curve inner fm last : List Float) where
   abbrev readsNumber : ℕ
   readsNumber = readsRefusal s rate active lane r frame (controlLengths l) (length curve) (length inner) (length fm) (length last)
 
@@ -81,7 +82,7 @@ module _ (s : Settings) (rate active lane : ℕ) (r : Range) (frame word step : 
 
 -- ---- a sample
 
-module _ (s : Settings) (active lane : ℕ) (r : Range) (frame step : ℕ) (x : Float) (l : Lent) (pairs last : List Float) where
+module _ (s : Settings) (active lane : ℕ) (r : Range) (frame step : ℕ) (x : Float) (l : ControlBuffers) (pairs last : List Float) where
   abbrev sampleNumber : ℕ
   sampleNumber = sampleRefusal s active lane r frame (controlLengths l) (length pairs) (length last)
 

@@ -1,56 +1,39 @@
 -- What an accepted call has. Assumes nothing.
 use mathlib.Core.Path.{_≡_}
-use mathlib.Core.Bool.{Bool, false, _||_}
+use mathlib.Core.Bool.{false, _||_}
 use Prim.Native.Nat.{ℕ, _+_, _*_, _/_, _≤_, _<_}
 use native.Mathlib.Nat.{div-lt-iff-lt-mul}
 use native.Mathlib.Omega.{arith}
-use lib.Dec.{ltb}
-use borrow.Author.Tests.{ltb-false}
-use Rattle.limits.specs.Lines.{badFactor, badLanes, badLane, badFrames, badRange, badFrame, badRate, shortLent, spansOf}
-use Rattle.limits.proofs.LineLaws.{first-passed, or-false, good-modes, small-factor, good-lanes, good-lane, good-frames, good-range, good-frame, good-rate, good-lent}
-use Rattle.controls.specs.Places.{Holds}
+use Rattle.limits.specs.declared.lengths.ControlLengths.{ControlLengths}
+use Rattle.limits.specs.Lines.{firstOf, numberLines, badFactor, badLane, badRate}
+use Rattle.limits.specs.Lengths.{spanLength, curveLength, pairsLength, carryLength, lastLength, shorter, shortControls, ControlsHeld}
+use Rattle.limits.proofs.LineLaws.{thenLengths, whole-table, first-passed, or-false, good-modes, small-factor, good-lane, good-frame, good-rate}
+use Rattle.limits.proofs.LengthLaws.{long-enough, controls-held}
 use Rattle.shaper.specs.declared.settings.Settings.{Settings}
 use Rattle.shaper.specs.declared.settings.Range.{Range}
-use Rattle.shaper.specs.declared.refusal.ControlLengths.{ControlLengths}
-use Rattle.shaper.specs.Refusal.{modeLine, laneLine, frameLine, controlsShort, readsRefusal, sampleRefusal}
+use Rattle.shaper.specs.Refusal.{modeLine, frameLine, readsShort, carryShort, pairsShort, readsRefusal, sampleRefusal}
 use Rattle.shaper.specs.Taken.{Held, Driven, Fed}
 
--- ---- line 7: base, modulation and sources
+-- ---- the tables, as the code goes through them
 
-pub record ControlsHeld (n frames : ℕ) (l : ControlLengths) : Type 0 where
-  pub base0 : n ≤ l .base0
-  pub base1 : n ≤ l .base1
-  pub mod0 : Holds (frames * n) (l .mod0)
-  pub mod1 : Holds (frames * n) (l .mod1)
-  pub source0 : Holds (frames * n) (l .source0)
-  pub source1 : Holds (frames * n) (l .source1)
+module _ (s : Settings) (active lane : ℕ) (r : Range) (frame : ℕ) (l : ControlLengths) where
+  pub reads-table : (rate curve inner fm last : ℕ)
+      → readsRefusal s rate active lane r frame l curve inner fm last
+      ≡ thenLengths (firstOf (numberLines (modeLine s) (badFactor (s .factor)) (badLane (s .lanes) active lane) (frameLine s r frame) (badRate rate) false))
+      (readsShort s l curve inner) (carryShort (s .lanes) fm last)
+  unfolding readsRefusal firstOf
+  reads-table rate curve inner fm last =
+      whole-table (modeLine s) (badFactor (s .factor)) (badLane (s .lanes) active lane) (frameLine s r frame) (badRate rate) false
+      (readsShort s l curve inner) (carryShort (s .lanes) fm last)
 
-pub controls-held : (n frames : ℕ) (l : ControlLengths) → controlsShort n frames l ≡ false → ControlsHeld n frames l
-controls-held n frames l e =
-    let lent : ℕ → Bool = λ have. shortLent (frames * n) have in
-    let p5 = or-false _ (lent (l .source1)) e in
-    let p4 = or-false _ (lent (l .source0)) (p5 .0) in
-    let p3 = or-false _ (lent (l .mod1)) (p4 .0) in
-    let p2 = or-false _ (lent (l .mod0)) (p3 .0) in
-    let p1 = or-false (ltb (l .base0) n) (ltb (l .base1) n) (p2 .0) in
-    record {
-      base0 = ltb-false (l .base0) n (p1 .0);
-      base1 = ltb-false (l .base1) n (p1 .1);
-      mod0 = record { holds = good-lent (frames * n) (l .mod0) (p2 .1) };
-      mod1 = record { holds = good-lent (frames * n) (l .mod1) (p3 .1) };
-      source0 = record { holds = good-lent (frames * n) (l .source0) (p4 .1) };
-      source1 = record { holds = good-lent (frames * n) (l .source1) (p5 .1) };
-    }
-
--- ---- what keeps the products of lines 7 and 8 small
-
-pub line-lanes : (s : Settings) (active lane : ℕ) → laneLine s active lane ≡ false → s .lanes ≤ 64
-line-lanes s active lane e = good-lanes (s .lanes) active (or-false (badLanes (s .lanes) active) (badLane active lane) e .0) .1
-
-pub line-frames : (s : Settings) (r : Range) (frame : ℕ) → frameLine s r frame ≡ false → s .frames ≤ 4096
-line-frames s r frame e =
-    let p = or-false (badFrames (s .frames) || badRange (s .frames) (r .first) (r .count)) (badFrame (s .factor) (r .count) frame) e in
-    good-frames (s .frames) (or-false (badFrames (s .frames)) (badRange (s .frames) (r .first) (r .count)) (p .0) .0)
+  pub sample-table : (pairs last : ℕ)
+      → sampleRefusal s active lane r frame l pairs last
+      ≡ thenLengths (firstOf (numberLines (modeLine s) (badFactor (s .factor)) (badLane (s .lanes) active lane) (frameLine s r frame) false false))
+      (shortControls (s .frames) (s .lanes) l) (pairsShort (s .lanes) pairs last)
+  unfolding sampleRefusal firstOf
+  sample-table pairs last =
+      whole-table (modeLine s) (badFactor (s .factor)) (badLane (s .lanes) active lane) (frameLine s r frame) false false
+      (shortControls (s .frames) (s .lanes) l) (pairsShort (s .lanes) pairs last)
 
 -- ---- lines 1 to 4 and 7, which both calls have
 
@@ -67,18 +50,16 @@ pub record Accepted (s : Settings) (active lane : ℕ) (r : Range) (frame : ℕ)
   pub block : s .frames ≤ 4096
   pub range : r .first + r .count ≤ s .frames
   pub rendered : frame < r .count * s .factor
-  pub controls : ControlsHeld (s .lanes) (s .frames) l
+  pub controls : ControlsHeld (s .frames) (s .lanes) l
 
 accepted : (s : Settings) (active lane : ℕ) (r : Range) (frame : ℕ) (l : ControlLengths) → modeLine s ≡ false → badFactor (s .factor) ≡ false
-    → laneLine s active lane ≡ false → frameLine s r frame ≡ false → controlsShort (s .lanes) (s .frames) l ≡ false
+    → badLane (s .lanes) active lane ≡ false → frameLine s r frame ≡ false → shortControls (s .frames) (s .lanes) l ≡ false
     → Accepted s active lane r frame l
 accepted s active lane r frame l e1 e2 e3 e4 e7 =
     let modes = good-modes (s .slot0 .mode) (s .slot1 .mode) e1 in
     let factor = small-factor (s .factor) e2 in
-    let line3 = or-false (badLanes (s .lanes) active) (badLane active lane) e3 in
-    let lanes = good-lanes (s .lanes) active (line3 .0) in
-    let line4 = or-false (badFrames (s .frames) || badRange (s .frames) (r .first) (r .count)) (badFrame (s .factor) (r .count) frame) e4 in
-    let frames = or-false (badFrames (s .frames)) (badRange (s .frames) (r .first) (r .count)) (line4 .0) in
+    let lanes = good-lane (s .lanes) active lane e3 in
+    let frames = good-frame (s .factor) (s .frames) (r .first) (r .count) frame e4 in
     record {
       mode0 = modes .0;
       mode1 = modes .1;
@@ -88,11 +69,11 @@ accepted s active lane r frame l e1 e2 e3 e4 e7 =
       lanes = lanes .0;
       few = lanes .1;
       actives = lanes .2;
-      inside = good-lane active lane (line3 .1);
-      block = good-frames (s .frames) (frames .0);
-      range = good-range (s .frames) (r .first) (r .count) (frames .1);
-      rendered = good-frame (s .factor) (r .count) frame (line4 .1);
-      controls = controls-held (s .lanes) (s .frames) l e7;
+      inside = lanes .3;
+      block = frames .0;
+      range = frames .1;
+      rendered = frames .2;
+      controls = controls-held (s .frames) (s .lanes) l e7;
     }
 
 -- the host frame of a rendered frame lies in the block
@@ -105,7 +86,6 @@ host-in frames first count factor frame some range h =
 module _ {s : Settings} {active lane : ℕ} {r : Range} {frame : ℕ} {l : ControlLengths} (a : Accepted s active lane r frame l) where
   pub driven-of : Driven s l lane (r .first + frame / s .factor)
   driven-of =
-      let c = a .controls in
       let actives = a .actives in
       let inside = a .inside in
       record {
@@ -115,12 +95,7 @@ module _ {s : Settings} {active lane : ℕ} {r : Range} {frame : ℕ} {l : Contr
           block = a .block;
           row = host-in (s .frames) (r .first) (r .count) (s .factor) frame (a .least) (a .range) (a .rendered);
         };
-        base0 = c .base0;
-        base1 = c .base1;
-        mod0 = c .mod0;
-        mod1 = c .mod1;
-        source0 = c .source0;
-        source1 = c .source1;
+        controls = a .controls;
       }
 
   -- rows of the lane in a buffer of so many numbers
@@ -136,10 +111,10 @@ pub record ReadsAccepted (s : Settings) (rate active lane : ℕ) (r : Range) (fr
   pub accepted : Accepted s active lane r frame l
   pub low : 8000 ≤ rate
   pub high : rate ≤ 192000
-  pub entries : 1025 ≤ curve
-  pub spans : spansOf (s .frames) * s .lanes ≤ inner
-  pub carry : 2 * s .lanes ≤ fm
-  pub kept : s .lanes ≤ last
+  pub entries : curveLength ≤ curve
+  pub spans : spanLength (s .frames) (s .lanes) ≤ inner
+  pub carry : carryLength (s .lanes) ≤ fm
+  pub kept : lastLength (s .lanes) ≤ last
 
 pub reads-accepted : (s : Settings) (rate active lane : ℕ) (r : Range) (frame : ℕ) (l : ControlLengths) (curve inner fm last : ℕ)
     → readsRefusal s rate active lane r frame l curve inner fm last ≡ 0 → ReadsAccepted s rate active lane r frame l curve inner fm last
@@ -147,23 +122,23 @@ unfolding readsRefusal
 reads-accepted s rate active lane r frame l curve inner fm last e =
     let p1 = first-passed (modeLine s) 0 _ e in
     let p2 = first-passed (badFactor (s .factor)) 1 _ (p1 .1) in
-    let p3 = first-passed (laneLine s active lane) 2 _ (p2 .1) in
+    let p3 = first-passed (badLane (s .lanes) active lane) 2 _ (p2 .1) in
     let p4 = first-passed (frameLine s r frame) 3 _ (p3 .1) in
     let p5 = first-passed (badRate rate) 4 _ (p4 .1) in
-    let p7 = first-passed (controlsShort (s .lanes) (s .frames) l || ltb curve 1025 || ltb inner (spansOf (s .frames) * s .lanes)) 6 _ (p5 .1) in
-    let p8 = first-passed (ltb fm (2 * s .lanes) || ltb last (s .lanes)) 7 _ (p7 .1) in
+    let p7 = first-passed (readsShort s l curve inner) 6 _ (p5 .1) in
+    let p8 = first-passed (carryShort (s .lanes) fm last) 7 _ (p7 .1) in
     let rates = good-rate rate (p5 .0) in
-    let read = or-false (controlsShort (s .lanes) (s .frames) l || ltb curve 1025) (ltb inner (spansOf (s .frames) * s .lanes)) (p7 .0) in
-    let controls = or-false (controlsShort (s .lanes) (s .frames) l) (ltb curve 1025) (read .0) in
-    let written = or-false (ltb fm (2 * s .lanes)) (ltb last (s .lanes)) (p8 .0) in
+    let read = or-false (shortControls (s .frames) (s .lanes) l || shorter curveLength curve) (shorter (spanLength (s .frames) (s .lanes)) inner) (p7 .0) in
+    let controls = or-false (shortControls (s .frames) (s .lanes) l) (shorter curveLength curve) (read .0) in
+    let written = or-false (shorter (carryLength (s .lanes)) fm) (shorter (lastLength (s .lanes)) last) (p8 .0) in
     record {
       accepted = accepted s active lane r frame l (p1 .0) (p2 .0) (p3 .0) (p4 .0) (controls .0);
       low = rates .0;
       high = rates .1;
-      entries = ltb-false curve 1025 (controls .1);
-      spans = ltb-false inner (spansOf (s .frames) * s .lanes) (read .1);
-      carry = ltb-false fm (2 * s .lanes) (written .0);
-      kept = ltb-false last (s .lanes) (written .1);
+      entries = long-enough curveLength curve (controls .1);
+      spans = long-enough (spanLength (s .frames) (s .lanes)) inner (read .1);
+      carry = long-enough (carryLength (s .lanes)) fm (written .0);
+      kept = long-enough (lastLength (s .lanes)) last (written .1);
     }
 
 pub fed-of : {s : Settings} {rate active lane : ℕ} {r : Range} {frame : ℕ} {l : ControlLengths} {curve inner fm last : ℕ}
@@ -171,7 +146,7 @@ pub fed-of : {s : Settings} {rate active lane : ℕ} {r : Range} {frame : ℕ} {
 fed-of a =
     record {
       driven = driven-of (a .accepted);
-      hertz = a .high;
+      rates = a .high;
       factor = a .accepted .most;
       entries = a .entries;
       spans = a .spans;
@@ -181,8 +156,8 @@ fed-of a =
 
 pub record SampleAccepted (s : Settings) (active lane : ℕ) (r : Range) (frame : ℕ) (l : ControlLengths) (pairs last : ℕ) : Type 0 where
   pub accepted : Accepted s active lane r frame l
-  pub cells : 4 * s .lanes ≤ pairs
-  pub kept : s .lanes ≤ last
+  pub cells : pairsLength (s .lanes) ≤ pairs
+  pub kept : lastLength (s .lanes) ≤ last
 
 pub sample-accepted : (s : Settings) (active lane : ℕ) (r : Range) (frame : ℕ) (l : ControlLengths) (pairs last : ℕ)
     → sampleRefusal s active lane r frame l pairs last ≡ 0 → SampleAccepted s active lane r frame l pairs last
@@ -190,13 +165,13 @@ unfolding sampleRefusal
 sample-accepted s active lane r frame l pairs last e =
     let p1 = first-passed (modeLine s) 0 _ e in
     let p2 = first-passed (badFactor (s .factor)) 1 _ (p1 .1) in
-    let p3 = first-passed (laneLine s active lane) 2 _ (p2 .1) in
+    let p3 = first-passed (badLane (s .lanes) active lane) 2 _ (p2 .1) in
     let p4 = first-passed (frameLine s r frame) 3 _ (p3 .1) in
-    let p7 = first-passed (controlsShort (s .lanes) (s .frames) l) 6 _ (p4 .1) in
-    let p8 = first-passed (ltb pairs (4 * s .lanes) || ltb last (s .lanes)) 7 _ (p7 .1) in
-    let written = or-false (ltb pairs (4 * s .lanes)) (ltb last (s .lanes)) (p8 .0) in
+    let p7 = first-passed (shortControls (s .frames) (s .lanes) l) 6 _ (p4 .1) in
+    let p8 = first-passed (pairsShort (s .lanes) pairs last) 7 _ (p7 .1) in
+    let written = or-false (shorter (pairsLength (s .lanes)) pairs) (shorter (lastLength (s .lanes)) last) (p8 .0) in
     record {
       accepted = accepted s active lane r frame l (p1 .0) (p2 .0) (p3 .0) (p4 .0) (p7 .0);
-      cells = ltb-false pairs (4 * s .lanes) (written .0);
-      kept = ltb-false last (s .lanes) (written .1);
+      cells = long-enough (pairsLength (s .lanes)) pairs (written .0);
+      kept = long-enough (lastLength (s .lanes)) last (written .1);
     }

@@ -11,12 +11,12 @@ use Rattle.grid.specs.Functions.{upd}
 use Rattle.grid.specs.Cells.{columns}
 use Rattle.grid.specs.Lanes.{Each}
 use Rattle.grid.proofs.Index.{row-in}
-use Rattle.limits.specs.Lines.{spansOf}
-use Rattle.limits.proofs.LineLaws.{span-in}
+use Rattle.limits.specs.declared.lengths.ControlLengths.{ControlLengths}
+use Rattle.limits.specs.Lengths.{spansOf}
+use Rattle.limits.proofs.LengthLaws.{span-in}
 use Rattle.voice.specs.declared.phase_run.Reads.{Reads}
 use Rattle.voice.specs.declared.wave_run.Shaped.{Shaped}
 use Rattle.shaper.specs.declared.settings.Settings.{Settings}
-use Rattle.shaper.specs.declared.refusal.ControlLengths.{ControlLengths}
 use Rattle.shaper.specs.Lane.{putPairs, putCarry}
 use Rattle.shaper.specs.Taken.{Fed, ReadsTaken, SampleTaken}
 

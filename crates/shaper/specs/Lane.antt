@@ -12,6 +12,7 @@ use Rattle.voice.specs.declared.phase_run.Reads.{Reads}
 use Rattle.voice.specs.declared.wave_run.Shaped.{Shaped}
 use Rattle.voice.specs.PhaseRun.{fmScale, readsOf}
 use Rattle.voice.specs.WaveRun.{shapedOf}
+use Rattle.limits.specs.Lengths.{subBlock}
 use Rattle.controls.specs.Controls.{Controls, controlAt}
 use Rattle.shaper.specs.declared.settings.Settings.{Settings}
 
@@ -23,14 +24,14 @@ control0At s c last host sub = controlAt (s .slot0 .mode) (s .factor) (s .frames
 unfoldable pub control1At : Settings → Controls → Float → ℕ → ℕ → Control
 control1At s c last host sub = controlAt (s .slot1 .mode) (s .factor) (s .frames) (c .base1) (c .mod1) (c .source1) last host sub
 
--- the read list, and the FM carry after it. `inner` is the lane's column of that span, a row for each 32 host frames of the block
+-- the read list, and the FM carry after it. `inner` is the lane's column of that span, a row for each sub-block
 unfoldable pub readsAt : Settings → ℕ → Controls → List Float → List Float → ℕ → ℕ → ℕ → ℕ → Float → Float → Float → Reads
 readsAt s rate c curve inner host sub word step fm0 fm1 last = do
   scale ← fmScale rate (s .factor)
   control0 ← control0At s c last host sub
   control1 ← control1At s c last host sub
   readsOf (s .numbers .sin) (s .numbers .atan) curve (s .slot0) (s .slot1) (s .factor) scale control0 control1
-      (getD inner (host / 32) nan) word step fm0 fm1
+      (getD inner (host / subBlock) nan) word step fm0 fm1
 
 -- the sample x shaped, and the filter pairs and `last` after it
 unfoldable pub shapedAt : Settings → Controls → ℕ → ℕ → ℕ → Float → Svf → Svf → Float → Shaped

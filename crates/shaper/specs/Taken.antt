@@ -7,14 +7,14 @@ use lib.Ieee.{Float, nan}
 use Rattle.grid.specs.Functions.{upd}
 use Rattle.grid.specs.Cells.{columns}
 use Rattle.grid.specs.Lanes.{Each}
-use Rattle.limits.specs.Lines.{spansOf}
+use Rattle.limits.specs.declared.lengths.ControlLengths.{ControlLengths}
+use Rattle.limits.specs.Lengths.{curveLength, spanLength, ControlsHeld}
 use Rattle.phase.specs.declared.reads.LaneReads.{LaneReads}
 use Rattle.wave.specs.declared.filters.Svf.{Svf}
 use Rattle.voice.specs.declared.phase_run.Reads.{Reads}
 use Rattle.voice.specs.declared.wave_run.Shaped.{Shaped}
-use Rattle.controls.specs.Places.{Spot, Holds}
+use Rattle.controls.specs.Places.{Spot}
 use Rattle.shaper.specs.declared.settings.Settings.{Settings}
-use Rattle.shaper.specs.declared.refusal.ControlLengths.{ControlLengths}
 use Rattle.shaper.specs.Lane.{putPairs, putCarry}
 
 -- ---- what is asked for
@@ -28,20 +28,15 @@ pub record Held (rows n lane have : ℕ) : Type 0 where
 -- base, modulation and sources at a host frame
 pub record Driven (s : Settings) (l : ControlLengths) (lane host : ℕ) : Type 0 where
   pub spot : Spot (s .frames) (s .lanes) lane host
-  pub base0 : s .lanes ≤ l .base0
-  pub base1 : s .lanes ≤ l .base1
-  pub mod0 : Holds (s .frames * s .lanes) (l .mod0)
-  pub mod1 : Holds (s .frames * s .lanes) (l .mod1)
-  pub source0 : Holds (s .frames * s .lanes) (l .source0)
-  pub source1 : Holds (s .frames * s .lanes) (l .source1)
+  pub controls : ControlsHeld (s .frames) (s .lanes) l
 
 -- and what a read list takes besides
 pub record Fed (s : Settings) (rate : ℕ) (l : ControlLengths) (lane host curve inner : ℕ) : Type 0 where
   pub driven : Driven s l lane host
-  pub hertz : rate ≤ 192000
+  pub rates : rate ≤ 192000
   pub factor : s .factor ≤ 8
-  pub entries : 1025 ≤ curve
-  pub spans : spansOf (s .frames) * s .lanes ≤ inner
+  pub entries : curveLength ≤ curve
+  pub spans : spanLength (s .frames) (s .lanes) ≤ inner
 
 -- ---- what is promised
 

@@ -3,6 +3,8 @@
 use crate::settings::Settings;
 use controls::control_at;
 use grid::place;
+use limits::CURVE_LENGTH;
+use limits::SUB_BLOCK;
 use voice::Reads;
 use voice::Shaped;
 use voice::fm_scale;
@@ -16,9 +18,10 @@ ghost use lib.ListN.{length, take};
 ghost use lib.Ieee.{nan};
 ghost use Rattle.floats.specs.Exp2.{entries};
 ghost use Rattle.grid.specs.Cells.{column};
-ghost use Rattle.limits.specs.Lines.{spansOf};
+ghost use Rattle.limits.specs.Lengths.{spansOf, curveLength};
+ghost use Rattle.controls.specs.Controls.{controlBuffers, controlLengths};
 ghost use Rattle.shaper.specs.Lane.{readsAt, shapedAt};
-ghost use Rattle.shaper.specs.ReadsCall.{lent, controlLengths, laneControls};
+ghost use Rattle.shaper.specs.ReadsCall.{laneControls};
 ghost use Rattle.shaper.specs.Taken.{Driven, Fed};
 
 // The read list, and the FM carry after it.
@@ -44,11 +47,11 @@ pub fn reads_at(
     last: f32,
 ) -> Reads
     requires { ⌜ now powers ≡ entries ⌝ ∗ ⌜ Fed s rate
-        (controlLengths (lent (now base0) (now base1) (now mod0) (now mod1) (now source0) (now source1)))
+        (controlLengths (controlBuffers (now base0) (now base1) (now mod0) (now mod1) (now source0) (now source1)))
         lane host (length (now curve)) (length (now inner)) ⌝ }
     ensures { λ r. ⌜ r ≡ readsAt s rate
-        (laneControls s (lent (now (base0 .entry)) (now (base1 .entry)) (now (mod0 .entry)) (now (mod1 .entry)) (now (source0 .entry)) (now (source1 .entry))) lane)
-        (take 1025 (now (curve .entry))) (column nan (s .lanes) lane (spansOf (s .frames)) (now (inner .entry)))
+        (laneControls s (controlBuffers (now (base0 .entry)) (now (base1 .entry)) (now (mod0 .entry)) (now (mod1 .entry)) (now (source0 .entry)) (now (source1 .entry))) lane)
+        (take curveLength (now (curve .entry))) (column nan (s .lanes) lane (spansOf (s .frames)) (now (inner .entry)))
         host sub word step fm0 fm1 last ⌝ }
     ensures { λ r. ⌜ r .reads .count ≤ 4 ⌝ }
 {
@@ -58,7 +61,7 @@ pub fn reads_at(
     let slot1 = s.slot1;
     let numbers = s.numbers;
     let zero = 0usize;
-    let entries = 1025usize;
+    let entries = CURVE_LENGTH;
     let table = &curve[zero..entries];
     let scale = fm_scale(rate, s.factor);
     let control0 = control_at(
@@ -87,7 +90,7 @@ pub fn reads_at(
         host,
         sub,
     );
-    let at = place(host / 32, n, lane);
+    let at = place(host / SUB_BLOCK, n, lane);
     let power0 = power_of(powers, slot0.mode, control0.amount);
     let power1 = power_of(powers, slot1.mode, control1.amount);
     reads_of(
@@ -130,9 +133,9 @@ pub fn shape_at(
     last: f32,
 ) -> Shaped
     requires { ⌜ now powers ≡ entries ⌝ ∗ ⌜ Driven s
-        (controlLengths (lent (now base0) (now base1) (now mod0) (now mod1) (now source0) (now source1))) lane host ⌝ }
+        (controlLengths (controlBuffers (now base0) (now base1) (now mod0) (now mod1) (now source0) (now source1))) lane host ⌝ }
     ensures { λ r. ⌜ r ≡ shapedAt s
-        (laneControls s (lent (now (base0 .entry)) (now (base1 .entry)) (now (mod0 .entry)) (now (mod1 .entry)) (now (source0 .entry)) (now (source1 .entry))) lane)
+        (laneControls s (controlBuffers (now (base0 .entry)) (now (base1 .entry)) (now (mod0 .entry)) (now (mod1 .entry)) (now (source0 .entry)) (now (source1 .entry))) lane)
         host sub step x pairs0 pairs1 last ⌝ }
 {
     let n = s.lanes as usize;

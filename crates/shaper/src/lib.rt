@@ -12,8 +12,6 @@ pub use cells::store_last;
 pub use cells::store_pairs;
 pub use lane::reads_at;
 pub use lane::shape_at;
-pub use refusal::ControlLengths;
-pub use refusal::controls_short;
 pub use settings::Range;
 pub use settings::Settings;
 pub use single::ReadsAnswer;

@@ -1,91 +1,64 @@
 // When the calls about a single rendered frame are turned down.
 use crate::settings::Range;
 use crate::settings::Settings;
+use limits::CURVE_LENGTH;
+use limits::ControlLengths;
+use limits::carry_length;
+use limits::controls_short;
 use limits::factor_bad;
+use limits::first_line;
 use limits::frame_bad;
-use limits::frames_bad;
 use limits::lane_bad;
-use limits::lanes_bad;
-use limits::lent_short;
+use limits::last_length;
 use limits::modes_bad;
-use limits::range_bad;
+use limits::pairs_length;
 use limits::rate_bad;
-use limits::spans_of;
+use limits::short;
+use limits::span_length;
 ghost use mathlib.Core.Path.{_≡_};
-ghost use mathlib.Core.Bool.{_||_};
-ghost use Prim.Native.Nat.{_*_, _≤_};
-ghost use lib.Dec.{ltb};
-ghost use Rattle.limits.specs.Lines.{spansOf};
-ghost use Rattle.shaper.specs.Refusal.{modeLine, laneLine, frameLine, controlsShort, readsRefusal, sampleRefusal};
+ghost use mathlib.Core.Bool.{false};
+ghost use Prim.Native.Nat.{_≤_};
+ghost use Rattle.limits.specs.Lines.{firstOf, numberLines, badFactor, badLane};
+ghost use Rattle.shaper.specs.Refusal.{modeLine, frameLine, readsShort, carryShort, pairsShort, readsRefusal, sampleRefusal};
 
-// The lengths of base, modulation and sources.
-pub struct ControlLengths {
-    pub base0: usize,
-    pub base1: usize,
-    pub mod0: usize,
-    pub mod1: usize,
-    pub source0: usize,
-    pub source1: usize,
-}
-
-fn mode_line(s: Settings) -> bool
-    ensures { λ r. ⌜ r ≡ modeLine s ⌝ }
+// Lines 1 to 4, which both calls have, and 5 by its test.
+fn numbers_refused(s: Settings, active: u32, lane: u32, r: Range, frame: u32, rate: bool) -> u32
+    ensures { λ a. ⌜ a ≡ firstOf (numberLines (modeLine s) (badFactor (s .factor)) (badLane (s .lanes) active lane) (frameLine s r frame) rate false) ⌝ }
 {
-    modes_bad(s.slot0.mode, s.slot1.mode)
+    first_line(
+        modes_bad(s.slot0.mode, s.slot1.mode),
+        factor_bad(s.factor),
+        lane_bad(s.lanes, active, lane),
+        frame_bad(s.factor, s.frames, r.first, r.count, frame),
+        rate,
+        false,
+    )
 }
 
-fn lane_line(s: Settings, active: u32, lane: u32) -> bool
-    ensures { λ r. ⌜ r ≡ laneLine s active lane ⌝ }
-{
-    lanes_bad(s.lanes, active) | lane_bad(active, lane)
-}
-
-fn frame_line(s: Settings, r: Range, frame: u32) -> bool
-    ensures { λ b. ⌜ b ≡ frameLine s r frame ⌝ }
-{
-    frames_bad(s.frames)
-        | range_bad(s.frames, r.first, r.count)
-        | frame_bad(s.factor, r.count, frame)
-}
-
-pub fn controls_short(n: usize, frames: usize, l: ControlLengths) -> bool
-    requires { ⌜ (n ≤ 64) × (frames ≤ 4096) ⌝ }
-    ensures { λ r. ⌜ r ≡ controlsShort n frames l ⌝ }
-{
-    let rows = frames * n;
-    (l.base0 < n)
-        | (l.base1 < n)
-        | lent_short(rows, l.mod0)
-        | lent_short(rows, l.mod1)
-        | lent_short(rows, l.source0)
-        | lent_short(rows, l.source1)
-}
-
-// Line 7 of a read list. The lines above it keep the products small.
+// Line 7 of a read list.
 fn reads_short(s: Settings, l: ControlLengths, curve: usize, inner: usize) -> bool
-    requires { ⌜ (s .lanes ≤ 64) × (s .frames ≤ 4096) ⌝ }
-    ensures { λ r. ⌜ r ≡ (controlsShort (s .lanes) (s .frames) l || ltb curve 1025 || ltb inner (spansOf (s .frames) * s .lanes)) ⌝ }
+    requires { ⌜ (s .frames ≤ 4096) × (s .lanes ≤ 64) ⌝ }
+    ensures { λ r. ⌜ r ≡ readsShort s l curve inner ⌝ }
 {
-    let n = s.lanes as usize;
-    controls_short(n, s.frames as usize, l)
-        | (curve < 1025)
-        | (inner < spans_of(s.frames) as usize * n)
+    controls_short(s.frames, s.lanes, l)
+        | short(CURVE_LENGTH, curve)
+        | short(span_length(s.frames, s.lanes), inner)
 }
 
 // Line 8 of a read list.
-fn carry_short(n: usize, fm: usize, last: usize) -> bool
-    requires { ⌜ n ≤ 64 ⌝ }
-    ensures { λ r. ⌜ r ≡ (ltb fm (2 * n) || ltb last n) ⌝ }
+fn carry_short(lanes: u32, fm: usize, last: usize) -> bool
+    requires { ⌜ lanes ≤ 64 ⌝ }
+    ensures { λ r. ⌜ r ≡ carryShort lanes fm last ⌝ }
 {
-    (fm < 2 * n) | (last < n)
+    short(carry_length(lanes), fm) | short(last_length(lanes), last)
 }
 
 // Line 8 of a sample.
-fn pairs_short(n: usize, pairs: usize, last: usize) -> bool
-    requires { ⌜ n ≤ 64 ⌝ }
-    ensures { λ r. ⌜ r ≡ (ltb pairs (4 * n) || ltb last n) ⌝ }
+fn pairs_short(lanes: u32, pairs: usize, last: usize) -> bool
+    requires { ⌜ lanes ≤ 64 ⌝ }
+    ensures { λ r. ⌜ r ≡ pairsShort lanes pairs last ⌝ }
 {
-    (pairs < 4 * n) | (last < n)
+    short(pairs_length(lanes), pairs) | short(last_length(lanes), last)
 }
 
 // The number of a read list: the first line that holds, and 0 where it is accepted. The last four
@@ -105,25 +78,14 @@ pub fn reads_refused(
 ) -> u32
     ensures { λ a. ⌜ a ≡ readsRefusal s rate active lane r frame l curve inner fm last ⌝ }
 {
-    if mode_line(s) {
-        return 1;
-    }
-    if factor_bad(s.factor) {
-        return 2;
-    }
-    if lane_line(s, active, lane) {
-        return 3;
-    }
-    if frame_line(s, r, frame) {
-        return 4;
-    }
-    if rate_bad(rate) {
-        return 5;
+    let number = numbers_refused(s, active, lane, r, frame, rate_bad(rate));
+    if number != 0 {
+        return number;
     }
     if reads_short(s, l, curve, inner) {
         return 7;
     }
-    if carry_short(s.lanes as usize, fm, last) {
+    if carry_short(s.lanes, fm, last) {
         return 8;
     }
     0
@@ -142,22 +104,14 @@ pub fn sample_refused(
 ) -> u32
     ensures { λ a. ⌜ a ≡ sampleRefusal s active lane r frame l pairs last ⌝ }
 {
-    if mode_line(s) {
-        return 1;
+    let number = numbers_refused(s, active, lane, r, frame, false);
+    if number != 0 {
+        return number;
     }
-    if factor_bad(s.factor) {
-        return 2;
-    }
-    if lane_line(s, active, lane) {
-        return 3;
-    }
-    if frame_line(s, r, frame) {
-        return 4;
-    }
-    if controls_short(s.lanes as usize, s.frames as usize, l) {
+    if controls_short(s.frames, s.lanes, l) {
         return 7;
     }
-    if pairs_short(s.lanes as usize, pairs, last) {
+    if pairs_short(s.lanes, pairs, last) {
         return 8;
     }
     0

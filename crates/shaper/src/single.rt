@@ -5,17 +5,18 @@ use crate::cells::store_last;
 use crate::cells::store_pairs;
 use crate::lane::reads_at;
 use crate::lane::shape_at;
-use crate::refusal::ControlLengths;
 use crate::refusal::reads_refused;
 use crate::refusal::sample_refused;
 use crate::settings::Range;
 use crate::settings::Settings;
 use grid::place;
+use limits::ControlLengths;
 use limits::Valued;
 use phase::LaneReads;
 ghost use mathlib.Core.Path.{_≡_};
 ghost use lib.ListN.{length};
-ghost use Rattle.shaper.specs.ReadsCall.{lent, controlLengths, noReads, readsTaken, ReadsCall};
+ghost use Rattle.controls.specs.Controls.{controlBuffers, controlLengths};
+ghost use Rattle.shaper.specs.ReadsCall.{noReads, readsTaken, ReadsCall};
 ghost use Rattle.shaper.specs.SampleCall.{sampleTaken, SampleCall};
 ghost use Rattle.shaper.specs.Taken.{Held, Driven, Fed, ReadsTaken, SampleTaken};
 
@@ -59,12 +60,12 @@ fn reads_taken(
     last: &[f32],
 ) -> LaneReads
     requires { ⌜ Fed s rate
-        (controlLengths (lent (now base0) (now base1) (now mod0) (now mod1) (now source0) (now source1)))
+        (controlLengths (controlBuffers (now base0) (now base1) (now mod0) (now mod1) (now source0) (now source1)))
         lane host (length (now curve)) (length (now inner)) ⌝
         ∗ ⌜ Held 2 (s .lanes) lane (length (now fm)) ⌝ ∗ ⌜ Held 1 (s .lanes) lane (length (now last)) ⌝ }
     ensures { λ a. ⌜ ReadsTaken s lane
         (readsTaken s rate lane host sub word step
-        (lent (now (base0 .entry)) (now (base1 .entry)) (now (mod0 .entry)) (now (mod1 .entry)) (now (source0 .entry)) (now (source1 .entry)))
+        (controlBuffers (now (base0 .entry)) (now (base1 .entry)) (now (mod0 .entry)) (now (mod1 .entry)) (now (source0 .entry)) (now (source1 .entry)))
         (now (curve .entry)) (now (inner .entry)) (now (fm .entry)) (now (last .entry)))
         (now (fm .entry)) (now (fm .exit)) a ⌝ }
 {
@@ -120,7 +121,7 @@ pub fn reads_lane(
     last: &[f32],
 ) -> ReadsAnswer
     ensures { λ a. ⌜ ReadsCall s rate active lane r frame word step
-        (lent (now (base0 .entry)) (now (base1 .entry)) (now (mod0 .entry)) (now (mod1 .entry)) (now (source0 .entry)) (now (source1 .entry)))
+        (controlBuffers (now (base0 .entry)) (now (base1 .entry)) (now (mod0 .entry)) (now (mod1 .entry)) (now (source0 .entry)) (now (source1 .entry)))
         (now (curve .entry)) (now (inner .entry)) (now (fm .entry)) (now (fm .exit)) (now (last .entry)) a ⌝ }
 {
     let lengths = ControlLengths {
@@ -197,11 +198,11 @@ fn sample_taken(
     last: &mut [f32],
 ) -> f32
     requires { ⌜ Driven s
-        (controlLengths (lent (now base0) (now base1) (now mod0) (now mod1) (now source0) (now source1))) lane host ⌝
+        (controlLengths (controlBuffers (now base0) (now base1) (now mod0) (now mod1) (now source0) (now source1))) lane host ⌝
         ∗ ⌜ Held 4 (s .lanes) lane (length (now pairs)) ⌝ ∗ ⌜ Held 1 (s .lanes) lane (length (now last)) ⌝ }
     ensures { λ y. ⌜ SampleTaken s lane
         (sampleTaken s lane host sub step x
-        (lent (now (base0 .entry)) (now (base1 .entry)) (now (mod0 .entry)) (now (mod1 .entry)) (now (source0 .entry)) (now (source1 .entry)))
+        (controlBuffers (now (base0 .entry)) (now (base1 .entry)) (now (mod0 .entry)) (now (mod1 .entry)) (now (source0 .entry)) (now (source1 .entry)))
         (now (pairs .entry)) (now (last .entry)))
         (now (pairs .entry)) (now (last .entry)) (now (pairs .exit)) (now (last .exit)) y ⌝ }
 {
@@ -255,7 +256,7 @@ pub fn shape_at_lane(
     last: &mut [f32],
 ) -> Valued
     ensures { λ a. ⌜ SampleCall s active lane r frame step x
-        (lent (now (base0 .entry)) (now (base1 .entry)) (now (mod0 .entry)) (now (mod1 .entry)) (now (source0 .entry)) (now (source1 .entry)))
+        (controlBuffers (now (base0 .entry)) (now (base1 .entry)) (now (mod0 .entry)) (now (mod1 .entry)) (now (source0 .entry)) (now (source1 .entry)))
         (now (pairs .entry)) (now (last .entry)) (now (pairs .exit)) (now (last .exit)) a ⌝ }
 {
     let lengths = ControlLengths {

@@ -7,7 +7,7 @@ use lib.Ieee.{Float}
 use lib.ListN.{length}
 use borrow.Author.Tests.{ne-eqb}
 use Rattle.floats.specs.F32.{0f}
-use Rattle.limits.specs.declared.Valued.{Valued}
+use Rattle.limits.specs.declared.answers.Valued.{Valued}
 use Rattle.spans.specs.Asked.{Faster}
 use Rattle.spans.specs.Refusal.{stretchRefusal}
 

@@ -13,6 +13,7 @@ use Rattle.grid.proofs.Index.{row-in}
 use Rattle.grid.proofs.FunctionLaws.{upto-none, upto-more}
 use Rattle.grid.proofs.CellLaws.{col-set, col-set-other}
 use Rattle.grid.proofs.EachLaws.{each-one, one-lane, one-others}
+use Rattle.limits.specs.declared.lengths.ControlLengths.{ControlLengths}
 use Rattle.controls.specs.Controls.{Controls}
 use Rattle.spans.specs.declared.slopes.Span.{Span}
 use Rattle.spans.specs.Slopes.{spanAt}
@@ -21,10 +22,9 @@ use Rattle.spans.specs.Prepared.{Spans, spans, View, views, filled}
 
 -- ---- what a sub-block asks for
 
-module _ {factor rate frames rows n base0 base1 mod0 mod1 source0 source1 inner stretch add : ℕ}
-    (taken : Takes factor rate frames rows n base0 base1 mod0 mod1 source0 source1 inner stretch add) (lane s : ℕ) (hl : lane < n)
-    (hs : s < rows) where
-  pub sub-block : Prepares factor rate frames n lane s base0 base1 mod0 mod1 source0 source1
+module _ {factor rate frames rows n : ℕ} {controls : ControlLengths} {inner stretch add : ℕ}
+    (taken : Takes factor rate frames rows n controls inner stretch add) (lane s : ℕ) (hl : lane < n) (hs : s < rows) where
+  pub sub-block : Prepares factor rate frames n lane s controls
   sub-block =
       record {
         inside = hl;
@@ -32,13 +32,8 @@ module _ {factor rate frames rows n base0 base1 mod0 mod1 source0 source1 inner 
         block = taken .block;
         first = omega arith;
         rendered = taken .rendered;
-        hertz = taken .hertz;
-        bases0 = taken .bases0;
-        bases1 = taken .bases1;
-        mods0 = taken .mods0;
-        mods1 = taken .mods1;
-        sources0 = taken .sources0;
-        sources1 = taken .sources1;
+        rates = taken .rates;
+        controls = taken .controls;
       }
 
   pub stored-low : s * n + lane < 8192

@@ -3,15 +3,16 @@ use mathlib.Core.Path.{_≡_, refl, sym}
 use mathlib.Core.Logic.{_⊎_, inl, inr}
 use Prim.Native.Nat.{ℕ}
 use native.Mathlib.Omega.{arith}
+use mathlib.Core.List.{List}
 use lib.Ieee.{Float}
 use Rattle.grid.specs.Lanes.{Each}
 use Rattle.grid.proofs.FunctionLaws.{upto-none}
 use Rattle.grid.proofs.EachLaws.{each-id, each-none, each-same}
-use Rattle.limits.specs.declared.Answer.{Answer}
-use Rattle.limits.specs.Lines.{spansOf}
-use Rattle.controls.specs.Controls.{Controls}
+use Rattle.limits.specs.declared.answers.Answer.{Answer}
+use Rattle.limits.specs.Lengths.{spansOf}
+use Rattle.controls.specs.Controls.{Controls, ControlBuffers}
 use Rattle.spans.specs.Slopes.{spanAt}
-use Rattle.spans.specs.Prepared.{Lent, Spans, View, views, filled, share, Prepared}
+use Rattle.spans.specs.Prepared.{Spans, View, views, filled, share, Prepared}
 use Rattle.spans.proofs.PreparedLaws.{same-spans}
 
 -- no sub-block
@@ -27,12 +28,12 @@ no-spans : spansOf 0 ≡ 0
 unfolding spansOf
 no-spans = refl
 
-module _ {mode0 mode1 factor n active f rate : ℕ} {r : Lent} {w w' : Spans} {a : Answer}
-    (did : Prepared mode0 mode1 factor n active f rate r w w' a) where
+module _ {mode0 mode1 factor n active f rate : ℕ} {b : ControlBuffers} {curve : List Float} {w w' : Spans} {a : Answer}
+    (did : Prepared mode0 mode1 factor n active f rate b curve w w' a) where
   -- a call in which no lane's share does anything
-  still : Each n 0 active (share mode0 mode1 factor n f rate r) (views n w) (views n w) → w' ≡ w
+  still : Each n 0 active (share mode0 mode1 factor n f rate b curve) (views n w) (views n w) → w' ≡ w
   still idle =
-      same-spans mode0 mode1 factor n active f rate r w did
+      same-spans mode0 mode1 factor n active f rate b curve w did
       (record {
         number = did .number;
         frames = did .frames;

@@ -2,19 +2,21 @@
 use mathlib.Core.Path.{_≡_, refl, sym, _∙_, ap}
 use Prim.Native.Nat.{ℕ, _<_}
 use native.Mathlib.Decide.{ℕ-discrete}
-use lib.Ieee.{nan}
+use mathlib.Core.List.{List}
+use lib.Ieee.{Float, nan}
 use borrow.Author.Tests.{ne-eqb}
 use Rattle.grid.proofs.CellLaws.{same-columns}
 use Rattle.grid.proofs.EachLaws.{each-unique}
-use Rattle.limits.specs.declared.Answer.{Answer}
+use Rattle.limits.specs.declared.answers.Answer.{Answer}
+use Rattle.controls.specs.Controls.{ControlBuffers}
 use Rattle.spans.specs.Refusal.{prepareRefusal}
-use Rattle.spans.specs.Prepared.{Lent, Spans, lengthsOf, View, views, Prepared}
+use Rattle.spans.specs.Prepared.{Spans, lengthsOf, View, views, Prepared}
 use Rattle.spans.proofs.RefusalLaws.{accepted}
 
-module _ (mode0 mode1 factor n active f rate : ℕ) (r : Lent) (w : Spans) where
+module _ (mode0 mode1 factor n active f rate : ℕ) (b : ControlBuffers) (curve : List Float) (w : Spans) where
   -- a call that is turned down
-  pub turned-down : (number : ℕ) → number ≡ prepareRefusal mode0 mode1 factor n active f rate (lengthsOf r w) → (number ≡ 0 → ⊥)
-      → Prepared mode0 mode1 factor n active f rate r w w (record { number = number; frames = 0 })
+  pub turned-down : (number : ℕ) → number ≡ prepareRefusal mode0 mode1 factor n active f rate (lengthsOf b curve w) → (number ≡ 0 → ⊥)
+      → Prepared mode0 mode1 factor n active f rate b curve w w (record { number = number; frames = 0 })
   turned-down number e ne =
       record {
         number = e;
@@ -27,8 +29,8 @@ module _ (mode0 mode1 factor n active f rate : ℕ) (r : Lent) (w : Spans) where
       }
 
   -- the promise leaves no cell open: two calls with the same arguments and buffers end alike
-  module _ {w' w'' : Spans} {a a' : Answer} (one : Prepared mode0 mode1 factor n active f rate r w w' a)
-      (two : Prepared mode0 mode1 factor n active f rate r w w'' a') where
+  module _ {w' w'' : Spans} {a a' : Answer} (one : Prepared mode0 mode1 factor n active f rate b curve w w' a)
+      (two : Prepared mode0 mode1 factor n active f rate b curve w w'' a') where
     same-number : a .number ≡ a' .number
     same-number = one .number ∙ sym (two .number)
 
@@ -43,7 +45,7 @@ module _ (mode0 mode1 factor n active f rate : ℕ) (r : Lent) (w : Spans) where
         go : Dec (a .number ≡ 0) → w' ≡ w''
         go (no ne) = one .refused ne ∙ sym (two .refused (λ e. ne (same-number ∙ e)))
         go (yes e) =
-            let some : 0 < n = accepted mode0 mode1 factor n active f rate (lengthsOf r w) (sym (one .number) ∙ e) .some in
+            let some : 0 < n = accepted mode0 mode1 factor n active f rate (lengthsOf b curve w) (sym (one .number) ∙ e) .some in
             let same : (l : ℕ) → l < n → views n w' l ≡ views n w'' l = each-unique (one .lanes e) (two .lanes (sym same-number ∙ e)) in
             let inners = same-columns nan n (w' .inner) (w'' .inner) some (one .inner ∙ sym (two .inner)) (λ l h. ap (λ (v : View). v .inner) (same l h)) in
             let stretches = same-columns nan n (w' .stretch) (w'' .stretch) some (one .stretch ∙ sym (two .stretch)) (λ l h. ap (λ (v : View). v .stretch) (same l h)) in

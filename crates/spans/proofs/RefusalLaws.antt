@@ -4,10 +4,10 @@ use mathlib.Core.Bool.{false, _||_}
 use Prim.Native.Nat.{ℕ, _+_, _-_, _*_, _/_, _≤_, _<_, max}
 use native.Mathlib.Nat.{mul-le-mul}
 use native.Mathlib.Omega.{arith}
-use lib.Dec.{ltb}
-use borrow.Author.Tests.{ltb-false}
-use Rattle.limits.specs.Lines.{badModes, badFactor, badLanes, badLane, badFrames, badRange, badAsked, badRate, shortLent, spansOf}
-use Rattle.limits.proofs.LineLaws.{first-passed, or-false, the-factor, small-factor, good-modes, good-lanes, good-lane, good-frames, good-range, good-asked, good-rate, good-lent, span-in, spans-small}
+use Rattle.limits.specs.Lines.{firstOf, numberLines, badModes, badFactor, badLanes, badLane, badFrames, badAsked, badRate}
+use Rattle.limits.specs.Lengths.{spansOf, spanLength, curveLength, shorter, shortControls}
+use Rattle.limits.proofs.LineLaws.{thenLengths, whole-table, first-passed, or-false, the-factor, small-factor, good-modes, good-lanes, good-lane, good-frames, good-asked, good-rate}
+use Rattle.limits.proofs.LengthLaws.{long-enough, controls-held, span-in, spans-small}
 use Rattle.spans.specs.declared.refusal.PrepareLengths.{PrepareLengths}
 use Rattle.spans.specs.Refusal.{prepareReadsShort, prepareWritesShort, prepareRefusal, stretchReadsShort, stretchRefusal}
 use Rattle.spans.specs.Promises.{Takes, Asks}
@@ -19,25 +19,14 @@ spans-last : (f : ℕ) → spansOf f * 32 < f + 32
 unfolding spansOf
 spans-last f = omega arith
 
--- what is read is there
-record Reads (n f : ℕ) (l : PrepareLengths) : Type 0 where
-  bases0 : ltb (l .base0) n ≡ false
-  bases1 : ltb (l .base1) n ≡ false
-  mods0 : shortLent (f * n) (l .mod0) ≡ false
-  mods1 : shortLent (f * n) (l .mod1) ≡ false
-  sources0 : shortLent (f * n) (l .source0) ≡ false
-  sources1 : shortLent (f * n) (l .source1) ≡ false
-  curves : ltb (l .curve) 1025 ≡ false
-
-reads-of : (n f : ℕ) (l : PrepareLengths) → prepareReadsShort n f l ≡ false → Reads n f l
-reads-of n f l e =
-    let p6 = or-false _ (ltb (l .curve) 1025) e in
-    let p5 = or-false _ (shortLent (f * n) (l .source1)) (p6 .0) in
-    let p4 = or-false _ (shortLent (f * n) (l .source0)) (p5 .0) in
-    let p3 = or-false _ (shortLent (f * n) (l .mod1)) (p4 .0) in
-    let p2 = or-false _ (shortLent (f * n) (l .mod0)) (p3 .0) in
-    let p1 = or-false (ltb (l .base0) n) (ltb (l .base1) n) (p2 .0) in
-    record { bases0 = p1 .0; bases1 = p1 .1; mods0 = p2 .1; mods1 = p3 .1; sources0 = p4 .1; sources1 = p5 .1; curves = p6 .1 }
+pub prepare-table : (mode0 mode1 factor n active f rate : ℕ) (l : PrepareLengths)
+    → prepareRefusal mode0 mode1 factor n active f rate l
+    ≡ thenLengths (firstOf (numberLines (badModes mode0 mode1) (badFactor factor) (badLanes n active) (badFrames f) (badRate rate) false))
+    (prepareReadsShort f n l) (prepareWritesShort f n l)
+unfolding prepareRefusal firstOf
+prepare-table mode0 mode1 factor n active f rate l =
+    whole-table (badModes mode0 mode1) (badFactor factor) (badLanes n active) (badFrames f) (badRate rate) false
+    (prepareReadsShort f n l) (prepareWritesShort f n l)
 
 -- what an accepted call has
 pub record Accepted (mode0 mode1 factor n active f rate : ℕ) (l : PrepareLengths) : Type 0 where
@@ -46,8 +35,8 @@ pub record Accepted (mode0 mode1 factor n active f rate : ℕ) (l : PrepareLengt
   pub some : 1 ≤ n
   pub lanes : active ≤ n
   pub rates : 8000 ≤ rate
-  pub curves : 1025 ≤ l .curve
-  pub takes : Takes factor rate f (spansOf f) n (l .base0) (l .base1) (l .mod0) (l .mod1) (l .source0) (l .source1) (l .inner) (l .stretch) (l .add)
+  pub curves : curveLength ≤ l .curve
+  pub takes : Takes factor rate f (spansOf f) n (l .controls) (l .inner) (l .stretch) (l .add)
 
 pub accepted : (mode0 mode1 factor n active f rate : ℕ) (l : PrepareLengths) → prepareRefusal mode0 mode1 factor n active f rate l ≡ 0
     → Accepted mode0 mode1 factor n active f rate l
@@ -58,36 +47,32 @@ accepted mode0 mode1 factor n active f rate l e =
     let p3 = first-passed (badLanes n active) 2 _ (p2 .1) in
     let p4 = first-passed (badFrames f) 3 _ (p3 .1) in
     let p5 = first-passed (badRate rate) 4 _ (p4 .1) in
-    let p7 = first-passed (prepareReadsShort n f l) 6 _ (p5 .1) in
-    let p8 = first-passed (prepareWritesShort n f l) 7 _ (p7 .1) in
+    let p7 = first-passed (prepareReadsShort f n l) 6 _ (p5 .1) in
+    let p8 = first-passed (prepareWritesShort f n l) 7 _ (p7 .1) in
     let lanes = good-lanes n active (p3 .0) in
     let rates = good-rate rate (p5 .0) in
-    let read = reads-of n f l (p7 .0) in
-    let written = or-false (ltb (l .inner) (spansOf f * n) || ltb (l .stretch) (spansOf f * n)) (ltb (l .add) (spansOf f * n)) (p8 .0) in
-    let first = or-false (ltb (l .inner) (spansOf f * n)) (ltb (l .stretch) (spansOf f * n)) (written .0) in
+    let cells : ℕ = spanLength f n in
+    let read = or-false (shortControls f n (l .controls)) (shorter curveLength (l .curve)) (p7 .0) in
+    let written = or-false (shorter cells (l .inner) || shorter cells (l .stretch)) (shorter cells (l .add)) (p8 .0) in
+    let first = or-false (shorter cells (l .inner)) (shorter cells (l .stretch)) (written .0) in
     record {
       modes = good-modes mode0 mode1 (p1 .0);
       factors = p2 .0;
       some = lanes .0;
       lanes = lanes .2;
       rates = rates .0;
-      curves = ltb-false (l .curve) 1025 (read .curves);
+      curves = long-enough curveLength (l .curve) (read .1);
       takes =
           record {
             few = lanes .1;
             block = good-frames f (p4 .0);
             last = spans-last f;
             rendered = small-factor factor (p2 .0) .1;
-            hertz = rates .1;
-            bases0 = ltb-false (l .base0) n (read .bases0);
-            bases1 = ltb-false (l .base1) n (read .bases1);
-            mods0 = record { holds = good-lent (f * n) (l .mod0) (read .mods0) };
-            mods1 = record { holds = good-lent (f * n) (l .mod1) (read .mods1) };
-            sources0 = record { holds = good-lent (f * n) (l .source0) (read .sources0) };
-            sources1 = record { holds = good-lent (f * n) (l .source1) (read .sources1) };
-            inners = ltb-false (l .inner) (spansOf f * n) (first .0);
-            stretches = ltb-false (l .stretch) (spansOf f * n) (first .1);
-            adds = ltb-false (l .add) (spansOf f * n) (written .1);
+            rates = rates .1;
+            controls = controls-held f n (l .controls) (read .0);
+            inners = long-enough cells (l .inner) (first .0);
+            stretches = long-enough cells (l .stretch) (first .1);
+            adds = long-enough cells (l .add) (written .1);
           };
     }
 
@@ -114,50 +99,32 @@ module _ (factor n active lane f first count from asked stretch add : ℕ) where
   -- what an accepted call has
   pub record StretchAccepted : Type 0 where
     pub factors : badFactor factor ≡ false
-    pub lanes : badLanes n active ≡ false
-    pub single : badLane active lane ≡ false
-    pub frames : badFrames f ≡ false
-    pub range : badRange f first count ≡ false
-    pub looked : badAsked factor count from asked ≡ false
-    pub stretches : ltb stretch (spansOf f * n) ≡ false
-    pub adds : ltb add (spansOf f * n) ≡ false
+    pub lanes : badLane n active lane ≡ false
+    pub looked : badAsked factor f first count from asked ≡ false
+    pub stretches : shorter (spanLength f n) stretch ≡ false
+    pub adds : shorter (spanLength f n) add ≡ false
 
   pub stretch-accepted : stretchRefusal factor n active lane f first count from asked stretch add ≡ 0 → StretchAccepted
   unfolding stretchRefusal
   stretch-accepted e =
       let p2 = first-passed (badFactor factor) 1 _ e in
-      let p3 = first-passed (badLanes n active || badLane active lane) 2 _ (p2 .1) in
-      let p4 = first-passed (badFrames f || badRange f first count || badAsked factor count from asked) 3 _ (p3 .1) in
-      let p7 = first-passed (stretchReadsShort n f stretch add) 6 _ (p4 .1) in
-      let lane = or-false (badLanes n active) (badLane active lane) (p3 .0) in
-      let looked = or-false (badFrames f || badRange f first count) (badAsked factor count from asked) (p4 .0) in
-      let range = or-false (badFrames f) (badRange f first count) (looked .0) in
-      let read = or-false (ltb stretch (spansOf f * n)) (ltb add (spansOf f * n)) (p7 .0) in
-      record {
-        factors = p2 .0;
-        lanes = lane .0;
-        single = lane .1;
-        frames = range .0;
-        range = range .1;
-        looked = looked .1;
-        stretches = read .0;
-        adds = read .1;
-      }
+      let p3 = first-passed (badLane n active lane) 2 _ (p2 .1) in
+      let p4 = first-passed (badAsked factor f first count from asked) 3 _ (p3 .1) in
+      let p7 = first-passed (stretchReadsShort f n stretch add) 6 _ (p4 .1) in
+      let read = or-false (shorter (spanLength f n) stretch) (shorter (spanLength f n) add) (p7 .0) in
+      record { factors = p2 .0; lanes = p3 .0; looked = p4 .0; stretches = read .0; adds = read .1 }
 
   pub accepted-frames : stretchRefusal factor n active lane f first count from asked stretch add ≡ 0 → f ≤ 4096
-  accepted-frames e = good-frames f (stretch-accepted e .frames)
+  accepted-frames e = good-asked factor f first count from asked (stretch-accepted e .looked) .0
 
   -- what the call's steps ask for
   pub asks-of : stretchRefusal factor n active lane f first count from asked stretch add ≡ 0
       → Asks factor first (spansOf f) n lane from asked stretch add
   asks-of e =
       let p = stretch-accepted e in
-      let lanes = good-lanes n active (p .lanes) in
-      let single = good-lane active lane (p .single) in
-      let block = good-frames f (p .frames) in
-      let range = good-range f first count (p .range) in
+      let lanes = good-lane n active lane (p .lanes) in
       let small = small-factor factor (p .factors) in
-      let looked = good-asked factor count from asked (p .looked) in
+      let looked = good-asked factor f first count from asked (p .looked) in
       let last : ℕ = from + max asked 1 - 1 in
       let counted : count ≤ 4096 = omega arith in
       let most : count * factor ≤ 4096 * 8 = mul-le-mul counted (small .1) in
@@ -166,12 +133,12 @@ module _ (factor n active lane f first count from asked stretch add : ℕ) where
       record {
         inside = omega arith;
         few = lanes .1;
-        block = omega (arith, spans-small f block);
+        block = omega (arith, spans-small f (looked .0));
         rendered = small .0;
         range = omega arith;
         frames = omega arith;
         order = omega arith;
         last = span-in f (first + last / factor) (omega arith);
-        stretches = ltb-false stretch (spansOf f * n) (p .stretches);
-        adds = ltb-false add (spansOf f * n) (p .adds);
+        stretches = long-enough (spanLength f n) stretch (p .stretches);
+        adds = long-enough (spanLength f n) add (p .adds);
       }

@@ -12,8 +12,8 @@ use Rattle.floats.specs.Steps.{_>>=_, if_then_else_}
 use Rattle.lanes.specs.Lane.{maxOf}
 use Rattle.grid.specs.Cells.{column}
 use Rattle.voice.specs.PhaseRun.{whole}
-use Rattle.limits.specs.Lines.{spansOf}
-use Rattle.limits.specs.declared.Valued.{Valued}
+use Rattle.limits.specs.Lengths.{subBlock, spansOf}
+use Rattle.limits.specs.declared.answers.Valued.{Valued}
 use Rattle.spans.specs.Refusal.{stretchRefusal}
 
 -- fold(start, max) over k rows from `from` on
@@ -23,7 +23,7 @@ mostTo start xs from (suc k) = maxOf (mostTo start xs from k) (getD xs (from + k
 
 -- the sub-block that a rendered frame of a range falls in
 abbrev pub spanOf : ℕ → ℕ → ℕ → ℕ
-spanOf factor first frame = (first + frame / factor) / 32
+spanOf factor first frame = (first + frame / factor) / subBlock
 
 -- if added <= 0.0 || increment == 0 { return steepest }
 unfoldable pub fasterBy : Float → Float → ℕ → Float

@@ -9,27 +9,13 @@ use lib.Ieee.{Float, nan}
 use Rattle.grid.specs.Functions.{upto}
 use Rattle.grid.specs.Cells.{col}
 use Rattle.grid.specs.Lanes.{Each}
-use Rattle.limits.specs.declared.Answer.{Answer}
-use Rattle.limits.specs.Lines.{spansOf}
+use Rattle.limits.specs.declared.answers.Answer.{Answer}
+use Rattle.limits.specs.Lengths.{spansOf, curveLength}
 use Rattle.curve.specs.Curve.{steepestOf}
-use Rattle.controls.specs.Controls.{Controls, controlsOf}
+use Rattle.controls.specs.Controls.{Controls, ControlBuffers, controlLengths, controlsOf}
 use Rattle.spans.specs.declared.refusal.PrepareLengths.{PrepareLengths}
 use Rattle.spans.specs.Slopes.{spanAt}
 use Rattle.spans.specs.Refusal.{prepareRefusal}
-
--- what the call is lent to read
-pub record Lent : Type 0 where
-  pub base0 : List Float
-  pub base1 : List Float
-  pub mod0 : List Float
-  pub mod1 : List Float
-  pub source0 : List Float
-  pub source1 : List Float
-  pub curve : List Float
-
-abbrev pub lent : List Float → List Float → List Float → List Float → List Float → List Float → List Float → Lent
-lent base0 base1 mod0 mod1 source0 source1 curve =
-    record { base0 = base0; base1 = base1; mod0 = mod0; mod1 = mod1; source0 = source0; source1 = source1; curve = curve }
 
 -- the three spans
 pub record Spans : Type 0 where
@@ -40,16 +26,11 @@ pub record Spans : Type 0 where
 abbrev pub spans : List Float → List Float → List Float → Spans
 spans inner stretch add = record { inner = inner; stretch = stretch; add = add }
 
-abbrev pub lengthsOf : Lent → Spans → PrepareLengths
-lengthsOf r w =
+abbrev pub lengthsOf : ControlBuffers → List Float → Spans → PrepareLengths
+lengthsOf b curve w =
     record {
-      base0 = length (r .base0);
-      base1 = length (r .base1);
-      mod0 = length (r .mod0);
-      mod1 = length (r .mod1);
-      source0 = length (r .source0);
-      source1 = length (r .source1);
-      curve = length (r .curve);
+      controls = controlLengths b;
+      curve = length curve;
       inner = length (w .inner);
       stretch = length (w .stretch);
       add = length (w .add);
@@ -74,17 +55,16 @@ filled mode0 mode1 factor frames rate curve c rows v =
     }
 
 -- one lane's share of an accepted call: every row of its sub-blocks, and no other
-abbrev pub share : ℕ → ℕ → ℕ → ℕ → ℕ → ℕ → Lent → ℕ → View → View
-share mode0 mode1 factor n frames rate r lane =
-    filled mode0 mode1 factor frames rate (steepestOf (take 1025 (r .curve)))
-    (controlsOf n lane frames (r .base0) (r .base1) (r .mod0) (r .mod1) (r .source0) (r .source1)) (spansOf frames)
+abbrev pub share : ℕ → ℕ → ℕ → ℕ → ℕ → ℕ → ControlBuffers → List Float → ℕ → View → View
+share mode0 mode1 factor n frames rate b curve lane =
+    filled mode0 mode1 factor frames rate (steepestOf (take curveLength curve)) (controlsOf n lane frames b) (spansOf frames)
 
 -- f host frames of the first `active` of n lanes, with the spans before and after
-pub record Prepared (mode0 mode1 factor n active f rate : ℕ) (r : Lent) (w w' : Spans) (a : Answer) : Type 0 where
-  pub number : a .number ≡ prepareRefusal mode0 mode1 factor n active f rate (lengthsOf r w)
+pub record Prepared (mode0 mode1 factor n active f rate : ℕ) (b : ControlBuffers) (curve : List Float) (w w' : Spans) (a : Answer) : Type 0 where
+  pub number : a .number ≡ prepareRefusal mode0 mode1 factor n active f rate (lengthsOf b curve w)
   pub frames : a .frames ≡ cond (eqb (a .number) 0) f 0
   pub refused : (a .number ≡ 0 → ⊥) → w' ≡ w
-  pub lanes : a .number ≡ 0 → Each n 0 active (share mode0 mode1 factor n f rate r) (views n w) (views n w')
+  pub lanes : a .number ≡ 0 → Each n 0 active (share mode0 mode1 factor n f rate b curve) (views n w) (views n w')
   pub inner : length (w' .inner) ≡ length (w .inner)
   pub stretch : length (w' .stretch) ≡ length (w .stretch)
   pub add : length (w' .add) ≡ length (w .add)

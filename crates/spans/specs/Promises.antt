@@ -1,6 +1,7 @@
 -- What the steps of `prepare` and of `stretch` ask for. Definitions only.
 use Prim.Native.Nat.{ℕ, _+_, _-_, _*_, _<_, _≤_, max}
-use Rattle.controls.specs.Places.{Holds}
+use Rattle.limits.specs.declared.lengths.ControlLengths.{ControlLengths}
+use Rattle.limits.specs.Lengths.{subBlock, ControlsHeld}
 use Rattle.spans.specs.Asked.{spanOf}
 
 -- a sub-block of k host frames from `from` on, and a lane of n
@@ -20,33 +21,23 @@ pub record Rows (frames n lane from k have : ℕ) : Type 0 where
   pub held : frames * n ≤ have
 
 -- sub-block s of a lane: what is read is there
-pub record Prepares (factor rate frames n lane s base0 base1 mod0 mod1 source0 source1 : ℕ) : Type 0 where
+pub record Prepares (factor rate frames n lane s : ℕ) (l : ControlLengths) : Type 0 where
   pub inside : lane < n
   pub few : n ≤ 64
   pub block : frames ≤ 4096
-  pub first : s * 32 < frames
+  pub first : s * subBlock < frames
   pub rendered : factor ≤ 8
-  pub hertz : rate ≤ 192000
-  pub bases0 : n ≤ base0
-  pub bases1 : n ≤ base1
-  pub mods0 : Holds (frames * n) mod0
-  pub mods1 : Holds (frames * n) mod1
-  pub sources0 : Holds (frames * n) source0
-  pub sources1 : Holds (frames * n) source1
+  pub rates : rate ≤ 192000
+  pub controls : ControlsHeld frames n l
 
 -- `rows` sub-blocks of every lane: what is read and what is written is there
-pub record Takes (factor rate frames rows n base0 base1 mod0 mod1 source0 source1 inner stretch add : ℕ) : Type 0 where
+pub record Takes (factor rate frames rows n : ℕ) (l : ControlLengths) (inner stretch add : ℕ) : Type 0 where
   pub few : n ≤ 64
   pub block : frames ≤ 4096
-  pub last : rows * 32 < frames + 32
+  pub last : rows * subBlock < frames + subBlock
   pub rendered : factor ≤ 8
-  pub hertz : rate ≤ 192000
-  pub bases0 : n ≤ base0
-  pub bases1 : n ≤ base1
-  pub mods0 : Holds (frames * n) mod0
-  pub mods1 : Holds (frames * n) mod1
-  pub sources0 : Holds (frames * n) source0
-  pub sources1 : Holds (frames * n) source1
+  pub rates : rate ≤ 192000
+  pub controls : ControlsHeld frames n l
   pub inners : rows * n ≤ inner
   pub stretches : rows * n ≤ stretch
   pub adds : rows * n ≤ add

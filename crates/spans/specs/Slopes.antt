@@ -14,14 +14,15 @@ use Rattle.modes.specs.Facts.{Answer, given, refused, thruZero, exponential, li
 use Rattle.modes.specs.Table.{modulatedOf, distortionOf}
 use Rattle.phase.specs.Slope.{stretchOf}
 use Rattle.voice.specs.PhaseRun.{whole, inPhase, fmExponential}
+use Rattle.limits.specs.Lengths.{subBlock}
 use Rattle.controls.specs.Controls.{Controls}
 use Rattle.spans.specs.declared.slopes.Bounds.{Bounds}
 use Rattle.spans.specs.declared.slopes.Swing.{Swing}
 use Rattle.spans.specs.declared.slopes.Span.{Span}
 
--- the host rows of sub-block s, which starts at row 32 × s
+-- the host rows of sub-block s
 abbrev pub rowsIn : ℕ → ℕ → ℕ
-rowsIn frames s = min 32 (frames - s * 32)
+rowsIn frames s = min subBlock (frames - s * subBlock)
 
 -- ---- the amount's bounds over k rows from `from` on, in percent
 
@@ -125,5 +126,5 @@ unfoldable pub spanAt : ℕ → ℕ → ℕ → ℕ → ℕ → Float → Contro
 spanAt mode0 mode1 factor frames rate curve c s = do
   perHertz ← wordsPerHertz rate factor
   start ← startSpan mode0 mode1 factor
-  one ← slotSpan true mode1 factor perHertz curve (c .base1) (c .mod1) (c .source1) (s * 32) (rowsIn frames s) start
-  slotSpan false mode0 factor perHertz curve (c .base0) (c .mod0) (c .source0) (s * 32) (rowsIn frames s) one
+  one ← slotSpan true mode1 factor perHertz curve (c .base1) (c .mod1) (c .source1) (s * subBlock) (rowsIn frames s) start
+  slotSpan false mode0 factor perHertz curve (c .base0) (c .mod0) (c .source0) (s * subBlock) (rowsIn frames s) one

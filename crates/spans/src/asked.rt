@@ -114,7 +114,7 @@ pub fn stretch(
             value: 0.0,
         };
     }
-    let rows = spans_of(frames) as usize;
+    let rows = spans_of(frames as usize);
     let value = faster_of(
         factor,
         first,

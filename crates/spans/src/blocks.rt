@@ -5,14 +5,16 @@ use crate::slopes::span_at;
 use curve::steepest_of;
 use grid::place;
 use limits::Answer;
+use limits::CURVE_LENGTH;
+use limits::ControlLengths;
 use limits::spans_of;
 ghost use mathlib.Core.Path.{_≡_};
 ghost use Prim.Native.Nat.{_+_, _<_, _≤_};
 ghost use lib.ListN.{length};
 ghost use Rattle.floats.specs.Exp2.{entries};
 ghost use Rattle.grid.specs.Lanes.{Each};
-ghost use Rattle.controls.specs.Controls.{controlsOf};
-ghost use Rattle.spans.specs.Prepared.{lent, spans, views, filled, Prepared};
+ghost use Rattle.controls.specs.Controls.{controlBuffers, controlLengths, controlsOf};
+ghost use Rattle.spans.specs.Prepared.{spans, views, filled, Prepared};
 ghost use Rattle.spans.specs.Promises.{Takes};
 
 // One lane's sub-blocks.
@@ -38,11 +40,10 @@ fn prepare_lane(
     add: &mut [f32],
 )
     requires { ⌜ now powers ≡ entries ⌝ }
-    requires { ⌜ Takes factor rate frames rows n (length (now base0)) (length (now base1)) (length (now mod0)) (length (now mod1))
-        (length (now source0)) (length (now source1)) (length (now inner)) (length (now stretch)) (length (now add)) ⌝ }
+    requires { ⌜ Takes factor rate frames rows n (controlLengths (controlBuffers (now base0) (now base1) (now mod0) (now mod1) (now source0) (now source1))) (length (now inner)) (length (now stretch)) (length (now add)) ⌝ }
     requires { ⌜ lane < n ⌝ }
     ensures { λ _. ⌜ Each n lane (lane + 1)
-        (λ l. filled mode0 mode1 factor frames rate curve (controlsOf n l frames (now (base0 .entry)) (now (base1 .entry)) (now (mod0 .entry)) (now (mod1 .entry)) (now (source0 .entry)) (now (source1 .entry))) rows)
+        (λ l. filled mode0 mode1 factor frames rate curve (controlsOf n l frames (controlBuffers (now (base0 .entry)) (now (base1 .entry)) (now (mod0 .entry)) (now (mod1 .entry)) (now (source0 .entry)) (now (source1 .entry)))) rows)
         (views n (spans (now (inner .entry)) (now (stretch .entry)) (now (add .entry)))) (views n (spans (now (inner .exit)) (now (stretch .exit)) (now (add .exit)))) ⌝ }
 {
     for s in 0..rows {
@@ -94,11 +95,10 @@ fn prepare_lanes(
     add: &mut [f32],
 )
     requires { ⌜ now powers ≡ entries ⌝ }
-    requires { ⌜ Takes factor rate frames rows n (length (now base0)) (length (now base1)) (length (now mod0)) (length (now mod1))
-        (length (now source0)) (length (now source1)) (length (now inner)) (length (now stretch)) (length (now add)) ⌝ }
+    requires { ⌜ Takes factor rate frames rows n (controlLengths (controlBuffers (now base0) (now base1) (now mod0) (now mod1) (now source0) (now source1))) (length (now inner)) (length (now stretch)) (length (now add)) ⌝ }
     requires { ⌜ active ≤ n ⌝ }
     ensures { λ _. ⌜ Each n 0 active
-        (λ l. filled mode0 mode1 factor frames rate curve (controlsOf n l frames (now (base0 .entry)) (now (base1 .entry)) (now (mod0 .entry)) (now (mod1 .entry)) (now (source0 .entry)) (now (source1 .entry))) rows)
+        (λ l. filled mode0 mode1 factor frames rate curve (controlsOf n l frames (controlBuffers (now (base0 .entry)) (now (base1 .entry)) (now (mod0 .entry)) (now (mod1 .entry)) (now (source0 .entry)) (now (source1 .entry)))) rows)
         (views n (spans (now (inner .entry)) (now (stretch .entry)) (now (add .entry)))) (views n (spans (now (inner .exit)) (now (stretch .exit)) (now (add .exit)))) ⌝ }
 {
     for lane in 0..active {
@@ -147,7 +147,7 @@ pub fn prepare(
     add: &mut [f32],
 ) -> Answer
     ensures { λ r. ⌜ Prepared mode0 mode1 factor lanes active frames rate
-        (lent (now (base0 .entry)) (now (base1 .entry)) (now (mod0 .entry)) (now (mod1 .entry)) (now (source0 .entry)) (now (source1 .entry)) (now (curve .entry)))
+        (controlBuffers (now (base0 .entry)) (now (base1 .entry)) (now (mod0 .entry)) (now (mod1 .entry)) (now (source0 .entry)) (now (source1 .entry))) (now (curve .entry))
         (spans (now (inner .entry)) (now (stretch .entry)) (now (add .entry))) (spans (now (inner .exit)) (now (stretch .exit)) (now (add .exit))) r ⌝ }
 {
     let number = prepare_refused(
@@ -159,12 +159,14 @@ pub fn prepare(
         frames,
         rate,
         PrepareLengths {
-            base0: base0.len(),
-            base1: base1.len(),
-            mod0: mod0.len(),
-            mod1: mod1.len(),
-            source0: source0.len(),
-            source1: source1.len(),
+            controls: ControlLengths {
+                base0: base0.len(),
+                base1: base1.len(),
+                mod0: mod0.len(),
+                mod1: mod1.len(),
+                source0: source0.len(),
+                source1: source1.len(),
+            },
             curve: curve.len(),
             inner: inner.len(),
             stretch: stretch.len(),
@@ -176,10 +178,10 @@ pub fn prepare(
     }
     let powers = floats::power_table();
     let zero = 0usize;
-    let entries = 1025usize;
+    let entries = CURVE_LENGTH;
     let table = &curve[zero..entries];
     let steepest = steepest_of(table);
-    let rows = spans_of(frames) as usize;
+    let rows = spans_of(frames as usize);
     prepare_lanes(
         &powers,
         mode0,

@@ -1,54 +1,70 @@
 // When `prepare` and `stretch` are turned down.
+use limits::CURVE_LENGTH;
+use limits::ControlLengths;
 use limits::asked_bad;
+use limits::controls_short;
 use limits::factor_bad;
+use limits::first_line;
 use limits::frames_bad;
 use limits::lane_bad;
 use limits::lanes_bad;
-use limits::lent_short;
 use limits::modes_bad;
-use limits::range_bad;
 use limits::rate_bad;
-use limits::spans_of;
+use limits::short;
+use limits::span_length;
 ghost use mathlib.Core.Path.{_≡_};
-ghost use Prim.Native.Nat.{_*_, _≤_};
+ghost use mathlib.Core.Bool.{false};
+ghost use Prim.Native.Nat.{_≤_};
+ghost use Rattle.limits.specs.Lines.{firstOf, numberLines, badModes, badFactor, badLanes, badFrames, badRate};
 ghost use Rattle.spans.specs.Refusal.{prepareReadsShort, prepareWritesShort, prepareRefusal, stretchReadsShort, stretchRefusal};
 
 // The lengths of what `prepare` is lent.
 pub struct PrepareLengths {
-    pub base0: usize,
-    pub base1: usize,
-    pub mod0: usize,
-    pub mod1: usize,
-    pub source0: usize,
-    pub source1: usize,
+    pub controls: ControlLengths,
     pub curve: usize,
     pub inner: usize,
     pub stretch: usize,
     pub add: usize,
 }
 
-// Line 7.
-fn prepare_reads_short(n: usize, frames: usize, l: PrepareLengths) -> bool
-    requires { ⌜ (n ≤ 64) × (frames ≤ 4096) ⌝ }
-    ensures { λ r. ⌜ r ≡ prepareReadsShort n frames l ⌝ }
+// Lines 1 to 5.
+fn prepare_numbers(
+    mode0: u32,
+    mode1: u32,
+    factor: u32,
+    lanes: u32,
+    active: u32,
+    frames: u32,
+    rate: u32,
+) -> u32
+    ensures { λ r. ⌜ r ≡ firstOf (numberLines (badModes mode0 mode1) (badFactor factor) (badLanes lanes active) (badFrames frames) (badRate rate) false) ⌝ }
 {
-    let rows = frames * n;
-    (l.base0 < n)
-        | (l.base1 < n)
-        | lent_short(rows, l.mod0)
-        | lent_short(rows, l.mod1)
-        | lent_short(rows, l.source0)
-        | lent_short(rows, l.source1)
-        | (l.curve < 1025)
+    first_line(
+        modes_bad(mode0, mode1),
+        factor_bad(factor),
+        lanes_bad(lanes, active),
+        frames_bad(frames),
+        rate_bad(rate),
+        false,
+    )
+}
+
+// Line 7.
+fn prepare_reads_short(frames: u32, lanes: u32, l: PrepareLengths) -> bool
+    requires { ⌜ (frames ≤ 4096) × (lanes ≤ 64) ⌝ }
+    ensures { λ r. ⌜ r ≡ prepareReadsShort frames lanes l ⌝ }
+{
+    let controls = l.controls;
+    controls_short(frames, lanes, controls) | short(CURVE_LENGTH, l.curve)
 }
 
 // Line 8.
-fn prepare_writes_short(n: usize, frames: u32, l: PrepareLengths) -> bool
-    requires { ⌜ (n ≤ 64) × (frames ≤ 4096) ⌝ }
-    ensures { λ r. ⌜ r ≡ prepareWritesShort n frames l ⌝ }
+fn prepare_writes_short(frames: u32, lanes: u32, l: PrepareLengths) -> bool
+    requires { ⌜ (frames ≤ 4096) × (lanes ≤ 64) ⌝ }
+    ensures { λ r. ⌜ r ≡ prepareWritesShort frames lanes l ⌝ }
 {
-    let cells = spans_of(frames) as usize * n;
-    (l.inner < cells) | (l.stretch < cells) | (l.add < cells)
+    let cells = span_length(frames, lanes);
+    short(cells, l.inner) | short(cells, l.stretch) | short(cells, l.add)
 }
 
 pub fn prepare_refused(
@@ -63,37 +79,26 @@ pub fn prepare_refused(
 ) -> u32
     ensures { λ r. ⌜ r ≡ prepareRefusal mode0 mode1 factor lanes active frames rate l ⌝ }
 {
-    if modes_bad(mode0, mode1) {
-        return 1;
+    let number = prepare_numbers(mode0, mode1, factor, lanes, active, frames, rate);
+    if number != 0 {
+        return number;
     }
-    if factor_bad(factor) {
-        return 2;
-    }
-    if lanes_bad(lanes, active) {
-        return 3;
-    }
-    if frames_bad(frames) {
-        return 4;
-    }
-    if rate_bad(rate) {
-        return 5;
-    }
-    if prepare_reads_short(lanes as usize, frames as usize, l) {
+    if prepare_reads_short(frames, lanes, l) {
         return 7;
     }
-    if prepare_writes_short(lanes as usize, frames, l) {
+    if prepare_writes_short(frames, lanes, l) {
         return 8;
     }
     0
 }
 
 // Line 7: `stretch` and `add` are the lengths of the two spans.
-fn stretch_reads_short(n: usize, frames: u32, stretch: usize, add: usize) -> bool
-    requires { ⌜ (n ≤ 64) × (frames ≤ 4096) ⌝ }
-    ensures { λ r. ⌜ r ≡ stretchReadsShort n frames stretch add ⌝ }
+fn stretch_reads_short(frames: u32, lanes: u32, stretch: usize, add: usize) -> bool
+    requires { ⌜ (frames ≤ 4096) × (lanes ≤ 64) ⌝ }
+    ensures { λ r. ⌜ r ≡ stretchReadsShort frames lanes stretch add ⌝ }
 {
-    let cells = spans_of(frames) as usize * n;
-    (stretch < cells) | (add < cells)
+    let cells = span_length(frames, lanes);
+    short(cells, stretch) | short(cells, add)
 }
 
 pub fn stretch_refused(
@@ -114,16 +119,13 @@ pub fn stretch_refused(
     if factor_bad(factor) {
         return 2;
     }
-    if lanes_bad(lanes, active) | lane_bad(active, lane) {
+    if lane_bad(lanes, active, lane) {
         return 3;
     }
-    if frames_bad(frames)
-        | range_bad(frames, first, count)
-        | asked_bad(factor, count, asked_first, asked)
-    {
+    if asked_bad(factor, frames, first, count, asked_first, asked) {
         return 4;
     }
-    if stretch_reads_short(lanes as usize, frames, stretch, add) {
+    if stretch_reads_short(frames, lanes, stretch, add) {
         return 7;
     }
     0

@@ -4,9 +4,12 @@ use floats::nearest_u32;
 use grid::place;
 use lanes::max;
 use lanes::min;
+use limits::SUB_BLOCK;
 use modes::FlagFact;
 use modes::ModulatedFact;
 use phase::stretch_of;
+use voice::FM_MAX_HZ;
+use voice::PD_MAX_CYCLES;
 use voice::fm_exponential;
 use voice::in_phase;
 ghost use mathlib.Core.Path.{_≡_};
@@ -16,15 +19,12 @@ ghost use lib.Ieee.{nan};
 ghost use Rattle.floats.specs.Exp2.{entries};
 ghost use Rattle.grid.specs.Cells.{column};
 ghost use Rattle.modes.specs.Table.{distortionOf};
-ghost use Rattle.controls.specs.Controls.{lentOf, controlsOf};
-ghost use Rattle.controls.specs.Places.{Holds};
+ghost use Rattle.controls.specs.Controls.{lentOf, controlBuffers, controlLengths, controlsOf};
+ghost use Rattle.limits.specs.Lengths.{Holds};
 ghost use Rattle.spans.specs.Slopes.{widened, boundsTo, boundsOf, swung, swingTo, steepestAt, reachOf, wordsPerHertz, fmSlope, pdSlope, addedOf, addOf, slotSpan, distorts, saysYes, startSpan, spanAt};
 ghost use Rattle.spans.specs.Promises.{Rows, Sub, Prepares};
 
-const FM_MAX_HZ: f32 = 83_750.0;
-
-const PD_MAX_CYCLES: f32 = 0.5;
-
+// The words of one cycle.
 const TWO_32: f32 = 4_294_967_296.0;
 
 // The least and the largest amount, in percent.
@@ -159,10 +159,10 @@ fn words_per_hertz(rate: u32, factor: u32) -> f32
     TWO_32 / nearest_u32(rate * factor)
 }
 
-fn fm_slope(a: f32, x: f32, hertz: f32) -> f32
-    ensures { λ r. ⌜ r ≡ fmSlope a x hertz ⌝ }
+fn fm_slope(a: f32, x: f32, per_hertz: f32) -> f32
+    ensures { λ r. ⌜ r ≡ fmSlope a x «per_hertz» ⌝ }
 {
-    a * a * a * a * FM_MAX_HZ * x * hertz
+    a * a * a * a * FM_MAX_HZ * x * per_hertz
 }
 
 fn pd_slope(a: f32, step: f32, factor: u32) -> f32
@@ -177,17 +177,17 @@ fn added_of(
     a: f32,
     w: Swing,
     factor: u32,
-    hertz: f32,
+    per_hertz: f32,
     add: f32,
 ) -> f32
     requires { ⌜ now powers ≡ entries ⌝ }
-    ensures { λ r. ⌜ r ≡ addedOf mode a w factor hertz add ⌝ }
+    ensures { λ r. ⌜ r ≡ addedOf mode a w factor «per_hertz» add ⌝ }
 {
     let modulated = modes::modulated(mode);
     match modulated {
-        ModulatedFact::FmThruZero => add + fm_slope(a, w.peak, hertz),
-        ModulatedFact::FmExponential => add + fm_slope(a, fm_exponential(powers, w.peak), hertz),
-        ModulatedFact::FmLinear => add + fm_slope(a, w.peak, hertz),
+        ModulatedFact::FmThruZero => add + fm_slope(a, w.peak, per_hertz),
+        ModulatedFact::FmExponential => add + fm_slope(a, fm_exponential(powers, w.peak), per_hertz),
+        ModulatedFact::FmLinear => add + fm_slope(a, w.peak, per_hertz),
         ModulatedFact::PhaseDistortion => add + pd_slope(a, w.step, factor),
         _ => add,
     }
@@ -204,18 +204,18 @@ fn add_of(
     from: usize,
     k: usize,
     factor: u32,
-    hertz: f32,
+    per_hertz: f32,
     add: f32,
 ) -> f32
     requires { ⌜ now powers ≡ entries ⌝ ∗ ⌜ Sub frames n lane from k ⌝ ∗ ⌜ Holds (frames * n) (length (now source)) ⌝ }
-    ensures { λ r. ⌜ r ≡ addOf mode b (lentOf n lane frames (now (source .entry))) from k factor hertz add ⌝ }
+    ensures { λ r. ⌜ r ≡ addOf mode b (lentOf n lane frames (now (source .entry))) from k factor «per_hertz» add ⌝ }
 {
     if source.len() == 0 {
         return add;
     }
     let a = reach(b);
     let w = source_span(source, frames, n, lane, from, k);
-    added_of(powers, mode, a, w, factor, hertz, add)
+    added_of(powers, mode, a, w, factor, per_hertz, add)
 }
 
 // One slot's share of the sub-block of `k` host frames from `from` on.
@@ -224,7 +224,7 @@ fn slot_span(
     second: bool,
     mode: u32,
     factor: u32,
-    hertz: f32,
+    per_hertz: f32,
     curve: f32,
     base: f32,
     modulation: &[f32],
@@ -237,7 +237,7 @@ fn slot_span(
     span: Span,
 ) -> Span
     requires { ⌜ now powers ≡ entries ⌝ ∗ ⌜ Sub frames n lane from k ⌝ ∗ ⌜ Holds (frames * n) (length (now modulation)) ⌝ ∗ ⌜ Holds (frames * n) (length (now source)) ⌝ }
-    ensures { λ r. ⌜ r ≡ slotSpan second mode factor hertz curve base (lentOf n lane frames (now (modulation .entry))) (lentOf n lane frames (now (source .entry))) from k span ⌝ }
+    ensures { λ r. ⌜ r ≡ slotSpan second mode factor «per_hertz» curve base (lentOf n lane frames (now (modulation .entry))) (lentOf n lane frames (now (source .entry))) from k span ⌝ }
 {
     if in_phase(mode) {
         let b = bounds_of(base, modulation, frames, n, lane, from, k);
@@ -253,7 +253,7 @@ fn slot_span(
             from,
             k,
             factor,
-            hertz,
+            per_hertz,
             span.add,
         );
         let inner = if second { steepest } else { span.inner };
@@ -319,21 +319,21 @@ pub fn span_at(
     source1: &[f32],
 ) -> Span
     requires { ⌜ now powers ≡ entries ⌝ }
-    requires { ⌜ Prepares factor rate frames n lane s (length (now base0)) (length (now base1)) (length (now mod0)) (length (now mod1)) (length (now source0)) (length (now source1)) ⌝ }
+    requires { ⌜ Prepares factor rate frames n lane s (controlLengths (controlBuffers (now base0) (now base1) (now mod0) (now mod1) (now source0) (now source1))) ⌝ }
     ensures { λ r. ⌜ r ≡ spanAt mode0 mode1 factor frames rate curve
-        (controlsOf n lane frames (now (base0 .entry)) (now (base1 .entry)) (now (mod0 .entry)) (now (mod1 .entry)) (now (source0 .entry)) (now (source1 .entry))) s ⌝ }
+        (controlsOf n lane frames (controlBuffers (now (base0 .entry)) (now (base1 .entry)) (now (mod0 .entry)) (now (mod1 .entry)) (now (source0 .entry)) (now (source1 .entry)))) s ⌝ }
 {
-    let from = s * 32;
+    let from = s * SUB_BLOCK;
     let left = frames - from;
-    let k = if left < 32 { left } else { 32 };
-    let hertz = words_per_hertz(rate, factor);
+    let k = if left < SUB_BLOCK { left } else { SUB_BLOCK };
+    let per_hertz = words_per_hertz(rate, factor);
     let start = start_span(mode0, mode1, factor);
     let one = slot_span(
         powers,
         true,
         mode1,
         factor,
-        hertz,
+        per_hertz,
         curve,
         base1[lane],
         mod1,
@@ -350,7 +350,7 @@ pub fn span_at(
         false,
         mode0,
         factor,
-        hertz,
+        per_hertz,
         curve,
         base0[lane],
         mod0,

@@ -7,6 +7,8 @@ pub mod sum_run;
 pub mod wave_run;
 
 pub use control::Control;
+pub use phase_run::FM_MAX_HZ;
+pub use phase_run::PD_MAX_CYCLES;
 pub use phase_run::Reads;
 pub use phase_run::fm_exponential;
 pub use phase_run::fm_scale;

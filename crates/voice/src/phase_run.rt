@@ -23,10 +23,10 @@ ghost use Rattle.voice.specs.Power.{powerOf};
 ghost use Rattle.voice.specs.PhaseRun.{inPhase, isOwn, fmExponential, fmScale, fmCycles, carriedOn, fmOffset, offsetOf, movedOf, mapSlot, listOf, readsOf};
 
 // FM's scale: the deviation at amount 1 and source 1.
-const FM_MAX_HZ: f32 = 83_750.0;
+pub const FM_MAX_HZ: f32 = 83_750.0;
 
 // Phase distortion's reach.
-const PD_MAX_CYCLES: f32 = 0.5;
+pub const PD_MAX_CYCLES: f32 = 0.5;
 
 // The width of an edge, in host samples.
 pub const TRANSITION: f32 = 2.0;

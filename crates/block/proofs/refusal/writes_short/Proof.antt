@@ -1,31 +1,26 @@
--- `refusal::writes_short` meets its contract: its products fit. Assumes nothing.
-use Prim.Native.Nat.{_*_, _≤_}
-use native.Mathlib.Nat.{mul-le-mul}
-use native.Mathlib.Omega.{arith}
+-- `refusal::writes_short` meets its contract. Assumes nothing.
 use borrow.Author.Needs.{needs}
 use Rattle.block.proofs.refusal.writes_short.Statement.{statement}
 use Rattle.block.proofs.refusal.writes_short.Tie as tie
 
-block : (c : tie.Start) → c .args .s .frames * c .args .s .lanes ≤ 4096 * 64
-block c = mul-le-mul (c .pre .1) (c .pre .0)
-
-rendered : (c : tie.Start) → c .args .r .count * c .args .s .factor ≤ 4096 * 8
-rendered c = mul-le-mul (c .pre .3) (c .pre .2)
-
-rows : (c : tie.Start) → c .args .r .count * c .args .s .factor * c .args .s .lanes ≤ 4096 * 8 * 64
-rows c = mul-le-mul (rendered c) (c .pre .0)
+returns : tie.Need-returns
+returns c =
+    rw (c .short6 .ensures, c .before .state-length .ensures, c .before .before .short5 .ensures, c .before .before .before .last-length .ensures, c .before .before .before .before .short4 .ensures, c .before .before .before .before .before .carry-length .ensures, c .before .before .before .before .before .before .short3 .ensures, c .before .before .before .before .before .before .before .pairs-length .ensures, c .before .before .before .before .before .before .before .before .short2 .ensures, c .before .before .before .before .before .before .before .before .before .rendered-length .ensures, c .before .before .before .before .before .before .before .before .before .before .short .ensures, c .before .before .before .before .before .before .before .before .before .before .before .host-length .ensures)
 
 pub writes-short-spec : {M : Type 1} → statement M
 writes-short-spec =
     tie.close
     (tie.spec
-    (λ c. search needs)
-    (λ c. omega (arith, block (c .before .before)))
-    (λ c. omega (arith, block (c .before .before)))
-    (λ c. omega (arith, rendered (c .before .before .before .before .before)))
-    (λ c. omega (arith, rows (c .before .before .before .before .before .before)))
-    (λ c. omega (arith, rows (c .before .before .before .before .before .before)))
-    (λ c. search needs)
-    (λ c. search needs)
-    (λ c. search needs)
-    (λ c. search needs))
+    (λ c κs. search needs)
+    (λ c κs. search needs)
+    (λ c κs. search needs)
+    (λ c κs. search needs)
+    (λ c κs. search needs)
+    (λ c κs. search needs)
+    (λ c κs. search needs)
+    (λ c κs. search needs)
+    (λ c κs. search needs)
+    (λ c κs. search needs)
+    (λ c κs. search needs)
+    (λ c κs. search needs)
+    returns)

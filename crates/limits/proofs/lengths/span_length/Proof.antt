@@ -13,4 +13,4 @@ returns : tie.Need-returns
 returns c = rw (c .spans-of .ensures)
 
 pub span-length-spec : {M : Type 1} → statement M
-span-length-spec = tie.close (tie.spec (λ c κs. search needs) (λ c. omega (arith, most c)) (λ c. omega (arith, most c)) returns)
+span-length-spec = tie.close (tie.spec (λ c κs. search needs) (λ c. omega (arith, most c)) returns)

@@ -9,4 +9,4 @@ unfolding spansOf
 returns c = search needs
 
 pub spans-of-spec : {M : Type 1} → statement M
-spans-of-spec = tie.close (tie.spec (λ c. search needs) returns)
+spans-of-spec = tie.close (tie.spec (λ c. search needs) (λ c. search needs) returns)

@@ -51,13 +51,13 @@ mul-still-drive : tie.Need-mul-still-drive
 mul-still-drive c = let p = c .before .before .before .before .before .before .before .before .before .before .before .before .before .before .before .before .before .pre in omega (arith, p .1 .0, p .1 .1 .0 .lanes)
 
 shared-slice-read-still-drive : tie.Need-shared-slice-read-still-drive
-shared-slice-read-still-drive c = let p = c .before .before .before .before .before .before .before .before .before .before .before .before .before .before .before .before .before .before .pre in omega (arith, p .1 .0, p .1 .1 .1 .1 .0 .base0)
+shared-slice-read-still-drive c = let p = c .before .before .before .before .before .before .before .before .before .before .before .before .before .before .before .before .before .before .pre in omega (arith, p .1 .0, p .1 .1 .1 .1 .0 .controls .base0)
 
 mul-still-drive-2 : tie.Need-mul-still-drive-2
 mul-still-drive-2 c = let p = c .before .before .before .before .before .before .before .before .before .before .before .before .before .before .before .before .before .before .before .pre in omega (arith, p .1 .0, p .1 .1 .0 .lanes)
 
 shared-slice-read-still-drive-2 : tie.Need-shared-slice-read-still-drive-2
-shared-slice-read-still-drive-2 c = let p = c .before .before .before .before .before .before .before .before .before .before .before .before .before .before .before .before .before .before .before .before .pre in omega (arith, p .1 .0, p .1 .1 .1 .1 .0 .base1)
+shared-slice-read-still-drive-2 c = let p = c .before .before .before .before .before .before .before .before .before .before .before .before .before .before .before .before .before .before .before .before .pre in omega (arith, p .1 .0, p .1 .1 .1 .1 .0 .controls .base1)
 
 render-hosts-requires : tie.Need-render-hosts-requires
 render-hosts-requires c κs =

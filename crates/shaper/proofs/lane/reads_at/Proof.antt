@@ -6,7 +6,7 @@ use borrow.Author.Needs.{needs}
 use denote.Ref.{now}
 use lib.ListN.{length}
 use Rattle.floats.specs.Steps.{given}
-use Rattle.limits.proofs.LineLaws.{span-in}
+use Rattle.limits.proofs.LengthLaws.{span-in}
 use Rattle.controls.proofs.LentLaws.{row-read}
 use Rattle.shaper.specs.Lane.{control0At, control1At, readsAt}
 use Rattle.shaper.proofs.TakenLaws.{span-held, span-small, table-held}
@@ -19,7 +19,7 @@ start c = c .before .before .before .before .before .before .before .before .bef
 control-at-requires-2 : tie.Need-control-at-requires-2
 control-at-requires-2 c κs =
     let d = c .before .before .before .before .before .before .before .before .before .before .before .before .before .before .before .before .pre .1 .driven in
-    (d .spot, (d .base1, (d .mod1, d .source1)))
+    (d .spot, (d .controls .base1, (d .controls .mod1, d .controls .source1)))
 
 place-requires : tie.Need-place-requires
 place-requires c κs =

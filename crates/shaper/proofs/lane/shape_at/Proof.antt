@@ -15,8 +15,8 @@ shape-at-spec =
     (tie.spec
     (λ c. search needs)
     (λ c. search needs)
-    (λ c κs. search needs)
-    (λ c κs. search needs)
+    (λ c κs. let d = c .before .before .before .before .before .before .before .before .before .before .before .pre .1 in (d .spot, (d .controls .base0, (d .controls .mod0, d .controls .source0))))
+    (λ c κs. let d = c .before .before .before .before .before .before .before .before .before .before .before .before .pre .1 in (d .spot, (d .controls .base1, (d .controls .mod1, d .controls .source1))))
     (λ c κs. c .before .before .before .before .before .before .before .before .before .before .before .before .before .pre .0)
     (λ c κs. c .before .before .before .before .before .before .before .before .before .before .before .before .before .before .pre .0)
     (λ c κs. (c .before .before .before .before .before .before .before .before .before .before .before .before .before .before .before .pre .0, (c .before .power-of .ensures, c .power-of2 .ensures)))

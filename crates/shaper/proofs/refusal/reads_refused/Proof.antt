@@ -1,83 +1,56 @@
 -- `refusal::reads_refused` meets its contract: each return is at the first line that holds. Assumes nothing.
 use mathlib.Core.Path.{_≡_, sym, _∙_}
-use mathlib.Core.Bool.{false, _||_}
+use mathlib.Core.Bool.{false}
+use Prim.Native.Nat.{_≤_}
 use borrow.Author.Needs.{needs}
-use Prim.Native.Nat.{_*_}
-use lib.Dec.{ltb}
-use Rattle.limits.specs.Lines.{firstOf, badFactor, badRate, spansOf}
-use Rattle.shaper.specs.Refusal.{modeLine, laneLine, frameLine, controlsShort, readsRefusal}
-use Rattle.shaper.proofs.RefusalLaws.{line-lanes, line-frames}
+use borrow.Author.Tests.{ne-eqb}
+use Rattle.limits.specs.Lines.{firstOf, numberLines, badFactor, badLane, badRate}
+use Rattle.limits.proofs.LineLaws.{numbers-passed, good-lane, good-frame}
+use Rattle.shaper.specs.Refusal.{modeLine, frameLine}
+use Rattle.shaper.proofs.RefusalLaws.{reads-table}
 use Rattle.shaper.proofs.refusal.reads_refused.Statement.{statement}
 use Rattle.shaper.proofs.refusal.reads_refused.Tie as tie
 
--- what each line that does not hold leaves
-passed-1 : (c : tie.Else1) → modeLine (c .before .before .args .s) ≡ false
-passed-1 c = sym (c .before .mode-line .ensures) ∙ c .if1 .left
+-- what lines 1 to 5 say
+numbers : (c : tie.After-numbers-refused)
+    → let a = c .before .before .args in
+    c .numbers-refused .result
+    ≡ firstOf (numberLines (modeLine (a .s)) (badFactor (a .s .factor)) (badLane (a .s .lanes) (a .active) (a .lane)) (frameLine (a .s) (a .r) (a .frame)) (badRate (a .rate)) false)
+numbers c = rw (c .before .rate-bad .ensures) at (c .numbers-refused .ensures)
 
-passed-2 : (c : tie.Else2) → badFactor (c .before .before .before .before .args .s .factor) ≡ false
-passed-2 c = sym (c .before .factor-bad .ensures) ∙ c .if2 .left
-
-passed-3 : (c : tie.Else3) → laneLine (c .before .before .before .before .before .before .args .s) (c .before .before .before .before .before .before .args .active) (c .before .before .before .before .before .before .args .lane) ≡ false
-passed-3 c = sym (c .before .lane-line .ensures) ∙ c .if3 .left
-
-passed-4 : (c : tie.Else4) → frameLine (c .before .before .before .before .before .before .before .before .args .s) (c .before .before .before .before .before .before .before .before .args .r) (c .before .before .before .before .before .before .before .before .args .frame) ≡ false
-passed-4 c = sym (c .before .frame-line .ensures) ∙ c .if4 .left
-
-passed-5 : (c : tie.Else5) → badRate (c .before .before .before .before .before .before .before .before .before .before .args .rate) ≡ false
-passed-5 c = sym (c .before .rate-bad .ensures) ∙ c .if5 .left
-
-passed-7 : (c : tie.Else6) → (controlsShort (c .before .before .before .before .before .before .before .before .before .before .before .before .args .s .lanes) (c .before .before .before .before .before .before .before .before .before .before .before .before .args .s .frames) (c .before .before .before .before .before .before .before .before .before .before .before .before .args .l) || ltb (c .before .before .before .before .before .before .before .before .before .before .before .before .args .curve) 1025 || ltb (c .before .before .before .before .before .before .before .before .before .before .before .before .args .inner) (spansOf (c .before .before .before .before .before .before .before .before .before .before .before .before .args .s .frames) * c .before .before .before .before .before .before .before .before .before .before .before .before .args .s .lanes)) ≡ false
-passed-7 c = sym (c .before .reads-short .ensures) ∙ c .if6 .left
+-- none of them holds
+small : (c : tie.Else1) → let a = c .before .before .before .args in (a .s .frames ≤ 4096) × (a .s .lanes ≤ 64)
+small c =
+    let p = numbers-passed _ _ _ _ _ _ (sym (numbers (c .before)) ∙ c .if1 .left) in
+    (good-frame _ _ _ _ _ (p .frames) .0, good-lane _ _ _ (p .lanes) .1)
 
 returns : tie.Need-returns
-unfolding readsRefusal firstOf
-returns c = rw (sym (c .before .mode-line .ensures) ∙ c .if1 .taken)
+returns c = rw (reads-table _ _ _ _ _ _ _ _ _ _ _, ← numbers (c .before), ne-eqb _ 0 (c .if1 .taken))
 
 returns-2 : tie.Need-returns-2
-unfolding readsRefusal firstOf
-returns-2 c = rw (passed-1 (c .before .before), sym (c .before .factor-bad .ensures) ∙ c .if2 .taken)
+returns-2 c =
+    let d = c .before .before in
+    rw (reads-table _ _ _ _ _ _ _ _ _ _ _, ← numbers (d .before), d .if1 .left, ← c .before .reads-short .ensures, c .if2 .taken)
 
 returns-3 : tie.Need-returns-3
-unfolding readsRefusal firstOf
-returns-3 c = rw (passed-1 (c .before .before .before .before), passed-2 (c .before .before), sym (c .before .lane-line .ensures) ∙ c .if3 .taken)
+returns-3 c =
+    let d = c .before .before .before .before in
+    rw (reads-table _ _ _ _ _ _ _ _ _ _ _, ← numbers (d .before), d .if1 .left, ← c .before .before .before .reads-short .ensures, c .before .before .if2 .left, ← c .before .carry-short .ensures, c .if3 .taken)
 
 returns-4 : tie.Need-returns-4
-unfolding readsRefusal firstOf
-returns-4 c = rw (passed-1 (c .before .before .before .before .before .before), passed-2 (c .before .before .before .before), passed-3 (c .before .before), sym (c .before .frame-line .ensures) ∙ c .if4 .taken)
-
-returns-5 : tie.Need-returns-5
-unfolding readsRefusal firstOf
-returns-5 c = rw (passed-1 (c .before .before .before .before .before .before .before .before), passed-2 (c .before .before .before .before .before .before), passed-3 (c .before .before .before .before), passed-4 (c .before .before), sym (c .before .rate-bad .ensures) ∙ c .if5 .taken)
-
-returns-6 : tie.Need-returns-6
-unfolding readsRefusal firstOf
-returns-6 c = rw (passed-1 (c .before .before .before .before .before .before .before .before .before .before), passed-2 (c .before .before .before .before .before .before .before .before), passed-3 (c .before .before .before .before .before .before), passed-4 (c .before .before .before .before), passed-5 (c .before .before), sym (c .before .reads-short .ensures) ∙ c .if6 .taken)
-
-returns-7 : tie.Need-returns-7
-unfolding readsRefusal firstOf
-returns-7 c = rw (passed-1 (c .before .before .before .before .before .before .before .before .before .before .before .before .before), passed-2 (c .before .before .before .before .before .before .before .before .before .before .before), passed-3 (c .before .before .before .before .before .before .before .before .before), passed-4 (c .before .before .before .before .before .before .before), passed-5 (c .before .before .before .before .before), passed-7 (c .before .before .before), sym (c .before .carry-short .ensures) ∙ c .if7 .taken)
-
-returns-8 : tie.Need-returns-8
-unfolding readsRefusal firstOf
-returns-8 c = rw (passed-1 (c .before .before .before .before .before .before .before .before .before .before .before .before .before), passed-2 (c .before .before .before .before .before .before .before .before .before .before .before), passed-3 (c .before .before .before .before .before .before .before .before .before), passed-4 (c .before .before .before .before .before .before .before), passed-5 (c .before .before .before .before .before), passed-7 (c .before .before .before), sym (c .before .carry-short .ensures) ∙ c .if7 .left)
+returns-4 c =
+    let d = c .before .before .before .before in
+    rw (reads-table _ _ _ _ _ _ _ _ _ _ _, ← numbers (d .before), d .if1 .left, ← c .before .before .before .reads-short .ensures, c .before .before .if2 .left, ← c .before .carry-short .ensures, c .if3 .left)
 
 pub reads-refused-spec : {M : Type 1} → statement M
 reads-refused-spec =
     tie.close
     (tie.spec
     (λ c κs. search needs)
+    (λ c κs. search needs)
     returns
-    (λ c κs. search needs)
+    (λ c κs. small c)
     returns-2
-    (λ c κs. search needs)
+    (λ c κs. small (c .before .before) .1)
     returns-3
-    (λ c κs. search needs)
-    returns-4
-    (λ c κs. search needs)
-    returns-5
-    (λ c κs. (line-lanes (c .before .before .before .before .before .before .before .before .before .before .args .s) _ _ (passed-3 (c .before .before .before .before)), line-frames (c .before .before .before .before .before .before .before .before .before .before .args .s) _ _ (passed-4 (c .before .before))))
-    returns-6
-    (λ c. search needs)
-    (λ c κs. line-lanes (c .before .before .before .before .before .before .before .before .before .before .before .before .before .args .s) _ _ (passed-3 (c .before .before .before .before .before .before .before)))
-    returns-7
-    returns-8)
+    returns-4)

@@ -4,7 +4,7 @@ use native.Mathlib.Omega.{arith}
 use borrow.Author.Needs.{needs}
 use denote.Ref.{now}
 use lib.ListN.{length}
-use Rattle.shaper.specs.ReadsCall.{lent, controlLengths}
+use Rattle.controls.specs.Controls.{controlBuffers, controlLengths}
 use Rattle.shaper.proofs.RefusalLaws.{ReadsAccepted, reads-accepted, driven-of, held-of, fed-of}
 use Rattle.shaper.proofs.CallLaws.{reads-turned-down, reads-done}
 use Rattle.shaper.proofs.single.reads_lane.Statement.{statement}
@@ -13,7 +13,7 @@ use Rattle.shaper.proofs.single.reads_lane.Tie as tie
 accepted : (c : tie.Else1)
     → let a = c .before .before .before .before .before .before .before .before .before .before .before .before .args in
     ReadsAccepted (a .s) (a .rate) (a .active) (a .lane) (a .r) (a .frame)
-    (controlLengths (lent (now (a .base0)) (now (a .base1)) (now (a .mod0)) (now (a .mod1)) (now (a .source0)) (now (a .source1))))
+    (controlLengths (controlBuffers (now (a .base0)) (now (a .base1)) (now (a .mod0)) (now (a .mod1)) (now (a .source0)) (now (a .source1))))
     (length (now (a .curve))) (length (now (a .inner))) (length (now (a .fm))) (length (now (a .last)))
 accepted c = reads-accepted _ _ _ _ _ _ _ _ _ _ _ (sym (c .before .reads-refused .ensures) ∙ c .if1 .left)
 

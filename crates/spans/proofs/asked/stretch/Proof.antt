@@ -35,6 +35,5 @@ stretch-spec =
     (λ c κs. search needs)
     returns
     (λ c κs. accepted-frames _ _ _ _ _ _ _ _ _ _ _ (accepted c))
-    (λ c. search needs)
     faster-of-requires
     returns-2)

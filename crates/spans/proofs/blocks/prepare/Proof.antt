@@ -8,7 +8,7 @@ use Rattle.spans.proofs.blocks.prepare.Statement.{statement}
 use Rattle.spans.proofs.blocks.prepare.Tie as tie
 
 returns : tie.Need-returns
-returns c = turned-down _ _ _ _ _ _ _ _ _ _ (c .before .prepare-refused .ensures) (c .if1 .taken)
+returns c = turned-down _ _ _ _ _ _ _ _ _ _ _ (c .before .prepare-refused .ensures) (c .if1 .taken)
 
 part-table-end : tie.Need-part-table-end
 part-table-end c =
@@ -50,7 +50,6 @@ prepare-spec =
     part-table-end
     (λ c κs. search needs)
     spans-of-requires
-    (λ c. search needs)
     prepare-lanes-requires
     (λ c. search needs)
     (λ c. search needs)

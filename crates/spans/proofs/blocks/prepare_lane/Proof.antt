@@ -5,7 +5,7 @@ use native.Mathlib.Omega.{arith}
 use lib.ListN.{length, length-set}
 use borrow.Author.Needs.{needs}
 use Rattle.grid.specs.Lanes.{Each}
-use Rattle.controls.specs.Controls.{controlsOf}
+use Rattle.controls.specs.Controls.{controlBuffers, controlsOf}
 use Rattle.spans.specs.Prepared.{spans, views, filled}
 use Rattle.spans.proofs.FilledLaws.{sub-block, stored-low, stored-in, filled-none, filled-more}
 use Rattle.spans.proofs.blocks.prepare_lane.Statement.{statement}
@@ -15,7 +15,7 @@ abbrev Inv-loop : tie.InvT-loop
 Inv-loop powers mode0 mode1 factor rate curve frames rows n lane base0 base1 mod0 mod1 source0 source1 inner₀ stretch₀ add₀ s₀ inner stretch add s =
     (s ≤ rows) × (length inner ≡ length inner₀) × (length stretch ≡ length stretch₀) × (length add ≡ length add₀)
     × Each n lane (lane + 1)
-    (λ l. filled mode0 mode1 factor frames rate curve (controlsOf n l frames base0 base1 mod0 mod1 source0 source1) s)
+    (λ l. filled mode0 mode1 factor frames rate curve (controlsOf n l frames (controlBuffers base0 base1 mod0 mod1 source0 source1)) s)
     (views n (spans inner₀ stretch₀ add₀)) (views n (spans inner stretch add))
 
 abbrev μ-loop : tie.MeasureT-loop

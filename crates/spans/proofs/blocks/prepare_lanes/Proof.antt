@@ -6,7 +6,7 @@ use lib.ListN.{length}
 use borrow.Author.Needs.{needs}
 use Rattle.grid.specs.Lanes.{Each}
 use Rattle.grid.proofs.EachLaws.{each-none, each-join}
-use Rattle.controls.specs.Controls.{controlsOf}
+use Rattle.controls.specs.Controls.{controlBuffers, controlsOf}
 use Rattle.spans.specs.Prepared.{spans, views, filled}
 use Rattle.spans.proofs.blocks.prepare_lanes.Statement.{statement}
 use Rattle.spans.proofs.blocks.prepare_lanes.Tie as tie
@@ -15,7 +15,7 @@ abbrev Inv-loop : tie.InvT-loop
 Inv-loop powers mode0 mode1 factor rate curve frames rows n active base0 base1 mod0 mod1 source0 source1 inner₀ stretch₀ add₀ lane₀ inner stretch add lane =
     (lane ≤ active) × (length inner ≡ length inner₀) × (length stretch ≡ length stretch₀) × (length add ≡ length add₀)
     × Each n 0 lane
-    (λ l. filled mode0 mode1 factor frames rate curve (controlsOf n l frames base0 base1 mod0 mod1 source0 source1) rows)
+    (λ l. filled mode0 mode1 factor frames rate curve (controlsOf n l frames (controlBuffers base0 base1 mod0 mod1 source0 source1)) rows)
     (views n (spans inner₀ stretch₀ add₀)) (views n (spans inner stretch add))
 
 abbrev μ-loop : tie.MeasureT-loop

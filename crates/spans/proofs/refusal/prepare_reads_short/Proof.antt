@@ -1,25 +1,10 @@
--- `refusal::prepare_reads_short` meets its contract: its product fits. Assumes nothing.
-use Prim.Native.Nat.{_*_, _≤_}
-use native.Mathlib.Nat.{mul-le-mul}
-use native.Mathlib.Omega.{arith}
+-- `refusal::prepare_reads_short` meets its contract. Assumes nothing.
 use borrow.Author.Needs.{needs}
 use Rattle.spans.proofs.refusal.prepare_reads_short.Statement.{statement}
 use Rattle.spans.proofs.refusal.prepare_reads_short.Tie as tie
 
-cells : (c : tie.Start) → c .args .frames * c .args .n ≤ 4096 * 64
-cells c = mul-le-mul (c .pre .1) (c .pre .0)
-
 returns : tie.Need-returns
-returns c =
-    rw (c .before .before .before .before .lent-short .ensures, c .before .before .before .lent-short2 .ensures, c .before .before .lent-short3 .ensures, c .before .lent-short4 .ensures)
+returns c = rw (c .before .controls-short .ensures, c .short .ensures)
 
 pub prepare-reads-short-spec : {M : Type 1} → statement M
-prepare-reads-short-spec =
-    tie.close
-    (tie.spec
-    (λ c. omega (arith, cells c))
-    (λ c κs. search needs)
-    (λ c κs. search needs)
-    (λ c κs. search needs)
-    (λ c κs. search needs)
-    returns)
+prepare-reads-short-spec = tie.close (tie.spec (λ c κs. search needs) (λ c κs. search needs) returns)

@@ -26,13 +26,13 @@ slot-span-requires : tie.Need-slot-span-requires
 slot-span-requires c κs =
     let j = c .before .before .before in
     let p = start j .pre in
-    (p .0, (sub j, (p .1 .mods1, p .1 .sources1)))
+    (p .0, (sub j, (p .1 .controls .mod1, p .1 .controls .source1)))
 
 slot-span-requires-2 : tie.Need-slot-span-requires-2
 slot-span-requires-2 c κs =
     let j = c .before .before .before .before .before in
     let p = start j .pre in
-    (p .0, (sub j, (p .1 .mods0, p .1 .sources0)))
+    (p .0, (sub j, (p .1 .controls .mod0, p .1 .controls .source0)))
 
 returns : tie.Need-returns
 unfolding spanAt

@@ -8,8 +8,8 @@ use Rattle.floats.specs.Steps.{step}
 use Rattle.controls.proofs.LentLaws.{given-by-length}
 use Rattle.render.specs.Frames.{frameAt}
 use Rattle.render.proofs.InputLaws.{row-read}
-use Rattle.render.proofs.frames.frame_at.Statement.{statement}
-use Rattle.render.proofs.frames.frame_at.Tie as tie
+use Rattle.render.proofs.frame.frame_at.Statement.{statement}
+use Rattle.render.proofs.frame.frame_at.Tie as tie
 
 abbrev start : tie.After-drive1 → tie.Start
 start c = c .before .before .before .before .before .before .before .before .before .before .before .before .before .before

@@ -10,8 +10,8 @@ use Rattle.render.specs.Promises.{lent}
 use Rattle.render.specs.Frames.{Ran}
 use Rattle.render.proofs.InputLaws.{room-in, room-near, framed, hosted}
 use Rattle.render.proofs.FrameLaws.{powered, ran-none, ran-more, ran-done}
-use Rattle.render.proofs.frames.render_host.Statement.{statement}
-use Rattle.render.proofs.frames.render_host.Tie as tie
+use Rattle.render.proofs.host.render_host.Statement.{statement}
+use Rattle.render.proofs.host.render_host.Tie as tie
 
 abbrev Inv-loop : tie.InvT-loop
 Inv-loop powers s scale lane host row base0 base1 mod0 mod1 source0 source1 curve cycle words steps inner work₀ n h state₀ sub₀ sub-end work state sub =

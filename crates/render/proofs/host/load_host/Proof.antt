@@ -4,11 +4,11 @@ use native.Mathlib.Omega.{arith}
 use denote.Ref.{now}
 use lib.ListN.{length}
 use borrow.Author.Needs.{needs}
-use Rattle.limits.proofs.LineLaws.{span-in}
+use Rattle.limits.proofs.LengthLaws.{span-in}
 use Rattle.render.specs.Frames.{hostAt}
 use Rattle.render.proofs.InputLaws.{row-read, slope-in, slope-near}
-use Rattle.render.proofs.frames.load_host.Statement.{statement}
-use Rattle.render.proofs.frames.load_host.Tie as tie
+use Rattle.render.proofs.host.load_host.Statement.{statement}
+use Rattle.render.proofs.host.load_host.Tie as tie
 
 abbrev start : tie.After-place → tie.Start
 start c = c .before .before .before .before .before .before .before .before .before .before .before .before .before .before
