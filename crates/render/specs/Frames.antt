@@ -12,7 +12,7 @@ use Rattle.grid.specs.Cells.{columns}
 use Rattle.grid.specs.Lanes.{Each}
 use Rattle.limits.specs.Lines.{spansOf}
 use Rattle.halfband.specs.declared.design.Designs.{Designs}
-use Rattle.phase.specs.Reads.{readSum}
+use Rattle.reads.specs.Reads.{readSum}
 use Rattle.voice.specs.declared.control.Control.{Control}
 use Rattle.voice.specs.PhaseRun.{fmScale, readsOf}
 use Rattle.voice.specs.WaveRun.{shapedOf}

@@ -4,7 +4,7 @@ use mathlib.Core.List.{List}
 use Prim.Native.Nat.{ℕ, _+_, _*_, _≤_, _<_}
 use lib.Ieee.{Float}
 use Rattle.grid.specs.Cells.{col}
-use Rattle.phase.specs.Reads.{cycleAt}
+use Rattle.reads.specs.Reads.{cycleAt}
 use Rattle.wave.specs.Slot.{inWave}
 use Rattle.voice.specs.PhaseRun.{inPhase}
 

@@ -8,7 +8,7 @@ use Rattle.grid.specs.Functions.{upd}
 use Rattle.grid.specs.Cells.{columns}
 use Rattle.grid.specs.Lanes.{Each}
 use Rattle.limits.specs.Lines.{spansOf}
-use Rattle.phase.specs.declared.reads.LaneReads.{LaneReads}
+use Rattle.reads.specs.declared.lists.LaneReads.{LaneReads}
 use Rattle.wave.specs.declared.filters.Svf.{Svf}
 use Rattle.voice.specs.declared.phase_run.Reads.{Reads}
 use Rattle.voice.specs.declared.wave_run.Shaped.{Shaped}

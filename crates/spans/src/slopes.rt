@@ -6,7 +6,7 @@ use lanes::max;
 use lanes::min;
 use modes::FlagFact;
 use modes::ModulatedFact;
-use phase::stretch_of;
+use slope::stretch_of;
 use voice::fm_exponential;
 use voice::in_phase;
 ghost use mathlib.Core.Path.{_≡_};
