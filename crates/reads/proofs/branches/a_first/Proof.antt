@@ -6,4 +6,4 @@ use Rattle.reads.proofs.branches.a_first.Tie as tie
 
 pub a-first-spec : {M : Type 1} → statement M
 unfolding aFirst
-a-first-spec = tie.close (tie.spec (λ c κs. search needs) (λ c. cc))
+a-first-spec = tie.close (tie.spec (λ c κs. search needs) (λ c. c .above .ensures))
