@@ -11,9 +11,9 @@ use modes::FmTypeFact;
 use modes::ModulatedFact;
 use modes::SourceFact;
 use modes::StageFact;
-use phase::LaneReads;
-use phase::ReadList;
 use phase::Slot;
+use reads::LaneReads;
+use reads::ReadList;
 ghost use mathlib.Core.Path.{_≡_};
 ghost use Rattle.floats.specs.Exp2.{entries};
 
@@ -136,7 +136,7 @@ fn curve_value(table: &[f32; 1025], x: f32) -> u32 {
 }
 
 fn stretch(mode: u32, amount: f32, steepest: f32) -> u32 {
-    let answer = phase::stretch(mode, amount, steepest);
+    let answer = slope::stretch(mode, amount, steepest);
     let number = answer.number;
     match number {
         0 => pattern(answer.value),
@@ -329,7 +329,7 @@ fn reads(powers: &[u32; 257], table: &[f32; 1025], mode0: u32, mode1: u32, c: Ca
         c.half * c.inner,
         first,
     );
-    phase::outgoing(second)
+    reads::outgoing(second)
 }
 
 // A read list as nine words put to the hash: its words, its gains' patterns, its count.

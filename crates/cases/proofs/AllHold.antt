@@ -12,8 +12,8 @@ use Rattle.lanes.specs.Word.{addWords, signedOf}
 use Rattle.modes.specs.Choice.{caseOf}
 use Rattle.modes.specs.Table.{modulatedOf}
 use Rattle.modes.specs.Totals.{totals}
+use Rattle.reads.specs.Reads.{startOf, emptyOf, weightedOf, pushOf, outgoingOf}
 use Rattle.phase.specs.Edge.{unitOf}
-use Rattle.phase.specs.Reads.{startOf, emptyOf, weightedOf, pushOf, outgoingOf}
 use Rattle.phase.specs.Map.{oddEvenMap, mapOf, mapped, emptied, applyOf}
 use Rattle.wave.specs.Curve.{foldCurve, hardClipCurve, curveOf}
 use Rattle.wave.specs.Integral.{beyondOf, hardClipIntegral, integralOf}

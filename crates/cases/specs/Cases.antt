@@ -12,9 +12,9 @@ use Rattle.floats.specs.Exp2.{exp2Of}
 use Rattle.lanes.specs.Word.{signedOf}
 use Rattle.modes.specs.Mode.{numberOf, OddEven, HardClip, Fold, Am1}
 use Rattle.modes.specs.Totals.{totals}
-use Rattle.phase.specs.declared.reads.LaneReads.{LaneReads}
+use Rattle.reads.specs.declared.lists.LaneReads.{LaneReads}
+use Rattle.reads.specs.Reads.{startOf, outgoingOf}
 use Rattle.phase.specs.Edge.{unitOf}
-use Rattle.phase.specs.Reads.{startOf, outgoingOf}
 use Rattle.phase.specs.Map.{applyOf}
 use Rattle.wave.specs.declared.filters.Filtered.{Filtered}
 use Rattle.wave.specs.declared.slots.Setting.{Setting}

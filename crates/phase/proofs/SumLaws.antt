@@ -8,12 +8,12 @@ use lib.ListN.{replicate}
 use lib.Ieee.{Float}
 use Rattle.floats.specs.F32.{1f, _⊕_, _⊗_}
 use Rattle.floats.specs.Steps.{_>>=_, if_then_else_}
-use Rattle.phase.specs.declared.reads.ReadList.{ReadList}
-use Rattle.phase.specs.declared.branches.Branches.{Branches}
+use Rattle.reads.specs.declared.lists.ReadList.{ReadList}
+use Rattle.reads.specs.declared.branches.Branches.{Branches}
+use Rattle.reads.specs.Reads.{startOf, emptyOf, weightedOf, pushOf, moveFirst, shiftOf, outgoingOf, sumTo, readSum}
+use Rattle.reads.specs.Branches.{appended, Makes}
 use Rattle.phase.specs.declared.map.Slot.{Slot}
-use Rattle.phase.specs.Reads.{startOf, emptyOf, weightedOf, pushOf, outgoingOf, sumTo, readSum}
-use Rattle.phase.specs.Map.{mapOf, mapped, emptied, applyOf, moveFirst, shiftOf}
-use Rattle.phase.specs.Branches.{appended, Makes}
+use Rattle.phase.specs.Map.{mapOf, mapped, emptied, applyOf}
 use Rattle.phase.specs.Sums.{mapIf, applyIf, shiftIf, readAt, productsAfter, productsOf, sumOne, sumTwo}
 
 -- the sum of a list as it goes out

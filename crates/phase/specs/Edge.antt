@@ -1,8 +1,7 @@
 -- What the maps of phase.rs have in common. `sk` and `ak` are the sine and arctangent numbers, h is the crossfade's half width.
 -- Definitions only.
 use Prim.Native.Nat.{ℕ}
-use mathlib.Core.List.{List, [], _∷_}
-use lib.Ieee as Ieee
+use mathlib.Core.List.{List}
 use lib.Ieee.{Float}
 use Rattle.floats.specs.F32.{_⊕_, _⊖_, _⊗_, _⊘_, bits, 0f, 1f, 2f, half}
 use Rattle.floats.specs.Steps.{_>>=_}
@@ -10,16 +9,8 @@ use Rattle.floats.specs.Floor.{floorOf}
 use Rattle.lanes.specs.Lane.{mulAdd}
 use Rattle.lanes.specs.Maths.{clampOf, smoothstepOf, sinCycles, cosCycles, atanOf}
 use Rattle.lanes.specs.Word.{signedOf, lookupOf}
-use Rattle.modes.specs.Mode.{numberOf, PinchIn, PinchOut, LeanRight, LeanLeft}
-use Rattle.modes.specs.Choice.{Case, _⇒_, caseOf}
 
--- PINCH_MAX, LEAN_MAX, FRAC_1_PI
-abbrev pub pinchMax : Float
-pinchMax = bits 0x3f4c_cccd
-
-abbrev pub leanMax : Float
-leanMax = bits 0x3fe6_6666
-
+-- FRAC_1_PI
 abbrev pub frac1pi : Float
 frac1pi = bits 0x3ea2_f983
 
@@ -63,15 +54,3 @@ unfoldable pub remapOf : List Float → Float → Float → Float
 remapOf table a x = do
   y ← lookupOf table x
   mulAdd (y ⊖ x) a x
-
-unfoldable pub pinchStrength : ℕ → Float → Float
-pinchStrength mode a =
-    caseOf mode
-    ((numberOf PinchIn ⇒ a ⊗ pinchMax) ∷ (numberOf PinchOut ⇒ Ieee.neg a ⊗ pinchMax) ∷ [])
-    ((a ⊗ 2f ⊖ 1f) ⊗ pinchMax)
-
-unfoldable pub leanStrength : ℕ → Float → Float
-leanStrength mode a =
-    caseOf mode
-    ((numberOf LeanRight ⇒ Ieee.neg a ⊗ leanMax) ∷ (numberOf LeanLeft ⇒ a ⊗ leanMax) ∷ [])
-    ((1f ⊖ a ⊗ 2f) ⊗ leanMax)

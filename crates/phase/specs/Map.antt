@@ -1,6 +1,6 @@
--- The arms of `map` of phase.rs, and `apply` and `shift`. `sk` and `ak` are the sine and arctangent numbers, `table` the lent curve,
+-- The arms of `map` of phase.rs, and `apply`. `sk` and `ak` are the sine and arctangent numbers, `table` the lent curve,
 -- h the crossfade's half width. Definitions only.
-use Prim.Native.Nat.{ℕ, zero, suc, _^_, max}
+use Prim.Native.Nat.{ℕ, zero, suc, _^_}
 use mathlib.Core.List.{List, [], _∷_}
 use lib.ListN.{getD}
 use lib.Ieee as Ieee
@@ -14,10 +14,11 @@ use Rattle.lanes.specs.Maths.{aboveOf, pickOf, clampOf, smoothstepOf, sinCycles
 use Rattle.lanes.specs.Word.{addWords, signedOf, toWord, lookupOf}
 use Rattle.modes.specs.Mode.{numberOf, Sync, PinchIn, PinchOut, Pinch, PulseWidth, LeanRight, LeanLeft, Lean, Flip, Mirror, RemapDrawn, RemapMirrored, RemapSine, RemapQuad, Quantise, OddEven}
 use Rattle.modes.specs.Choice.{Case, _⇒_, caseOf}
-use Rattle.phase.specs.declared.reads.ReadList.{ReadList}
+use Rattle.reads.specs.declared.lists.ReadList.{ReadList}
+use Rattle.reads.specs.Reads.{emptyOf, weightedOf, pushOf, pushPair}
+use Rattle.slope.specs.Strengths.{leanMax, pulseMax, pinchStrength, leanStrength}
 use Rattle.phase.specs.declared.map.Slot.{Slot}
-use Rattle.phase.specs.Reads.{emptyOf, weightedOf, pushOf, pushPair}
-use Rattle.phase.specs.Edge.{leanMax, frac1pi, unitOf, wrapOf, smoothBox, leanOffset, remapOf, pinchStrength, leanStrength}
+use Rattle.phase.specs.Edge.{frac1pi, unitOf, wrapOf, smoothBox, leanOffset, remapOf}
 use Rattle.phase.specs.Quantise.{quantiseOf}
 
 -- Mode::Sync; 4 is SYNC_MAX_RATIO.log2()
@@ -58,10 +59,10 @@ leanMap sk ak mode a word gain out = do
   read ← addWords word moved
   pushOf out read gain
 
--- Mode::PulseWidth; the number is PULSE_MAX
+-- Mode::PulseWidth
 unfoldable pub pulseWidthMap : Float → Float → ℕ → Float → ReadList → ReadList
 pulseWidthMap a h word gain out = do
-  length ← 1f ⊖ a ⊗ bits 0x3f73_3333
+  length ← 1f ⊖ a ⊗ pulseMax
   centre ← length ⊗ half
   u ← unitOf word
   v ← wrapOf (u ⊖ centre)
@@ -183,13 +184,3 @@ emptied list = record { word = emptyOf (getD (list .word) 0 0) .word; gain = emp
 
 unfoldable pub applyOf : List Float → List Float → List Float → Slot → Float → Float → ReadList → ReadList
 applyOf sk ak table slot a h list = mapped sk ak table slot a h (list .word) (list .gain) (emptied list) (list .count)
-
--- the first n words moved on by the offset
-unfoldable pub moveFirst : ℕ → ℕ → List ℕ → List ℕ
-moveFirst offset zero words = words
-moveFirst offset (suc n) [] = []
-moveFirst offset (suc n) (w ∷ words) = addWords w offset ∷ moveFirst offset n words
-
--- the words in use, of a list of none the first
-unfoldable pub shiftOf : ReadList → ℕ → ReadList
-shiftOf list offset = record { word = moveFirst offset (max (list .count) 1) (list .word); gain = list .gain; count = list .count; weighted = list .weighted }

@@ -9,11 +9,11 @@ use Rattle.floats.specs.Exp2.{exp2Of}
 use Rattle.lanes.specs.Lane.{mulAdd, minOf}
 use Rattle.lanes.specs.Maths.{aboveOf, pickOf, clampOf, smoothstepOf}
 use Rattle.lanes.specs.Word.{signedOf, toWord}
-use Rattle.phase.specs.declared.reads.ReadList.{ReadList}
+use Rattle.reads.specs.declared.lists.ReadList.{ReadList}
+use Rattle.reads.specs.Reads.{pushPair}
 use Rattle.phase.specs.declared.quantise.Steps.{Steps}
 use Rattle.phase.specs.declared.quantise.Line.{Line}
 use Rattle.phase.specs.declared.quantise.Edge.{Edge}
-use Rattle.phase.specs.Reads.{pushPair}
 
 -- 10 is (QUANTISE_MAX_STEPS / QUANTISE_MIN_STEPS).log2(), 2 is QUANTISE_MIN_STEPS; the last number is 0.499
 unfoldable pub stepsOf : Float → Float → Steps

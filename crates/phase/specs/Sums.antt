@@ -7,11 +7,11 @@ use lib.Ieee.{Float}
 use Rattle.floats.specs.F32.{_⊕_, _⊗_, 1f}
 use Rattle.floats.specs.Steps.{if_then_else_}
 use Rattle.lanes.specs.Word.{addWords}
-use Rattle.phase.specs.declared.reads.ReadList.{ReadList}
-use Rattle.phase.specs.declared.branches.Branches.{Branches}
+use Rattle.reads.specs.declared.lists.ReadList.{ReadList}
+use Rattle.reads.specs.declared.branches.Branches.{Branches}
+use Rattle.reads.specs.Reads.{pushOf, shiftOf, cycleAt}
 use Rattle.phase.specs.declared.map.Slot.{Slot}
-use Rattle.phase.specs.Reads.{pushOf, cycleAt}
-use Rattle.phase.specs.Map.{mapOf, applyOf, shiftOf}
+use Rattle.phase.specs.Map.{mapOf, applyOf}
 
 -- ---- steps that a slot takes only if it is on
 unfoldable pub mapIf : Bool → List Float → List Float → List Float → Slot → Float → Float → ℕ → ReadList → ReadList

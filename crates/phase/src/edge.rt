@@ -1,4 +1,5 @@
-// What the maps have in common: the running phase, edges without aliasing, and the strengths.
+// What the maps have in common: the running phase, edges without aliasing, the lean map's offset and the
+// drawn curve.
 use floats::floor;
 use lanes::Numbers;
 use lanes::atan;
@@ -11,11 +12,7 @@ use lanes::smoothstep;
 ghost use mathlib.Core.Path.{_≡_};
 ghost use Prim.Native.Nat.{_<_};
 ghost use lib.ListN.{length};
-ghost use Rattle.phase.specs.Edge.{unitOf, wrapOf, edgeStep, smoothBox, leanOffset, remapOf, pinchStrength, leanStrength};
-
-pub const PINCH_MAX: f32 = 0.8;
-
-pub const LEAN_MAX: f32 = 1.8;
+ghost use Rattle.phase.specs.Edge.{unitOf, wrapOf, edgeStep, smoothBox, leanOffset, remapOf};
 
 const FRAC_1_PI: f32 = 0.31830987;
 
@@ -78,26 +75,4 @@ pub fn remap(curve: &[f32], a: f32, x: f32) -> f32
 {
     let y = lookup(curve, x);
     (y - x) * a + x
-}
-
-// The pinch map's strength, -`PINCH_MAX` (out) to +`PINCH_MAX` (in).
-pub fn pinch_strength(mode: u32, a: f32) -> f32
-    ensures { λ r. ⌜ r ≡ pinchStrength mode a ⌝ }
-{
-    match mode {
-        2 => a * PINCH_MAX,
-        3 => -a * PINCH_MAX,
-        _ => (a * 2.0 - 1.0) * PINCH_MAX,
-    }
-}
-
-// The lean map's strength: negative leans right (the cycle's content later), positive left.
-pub fn lean_strength(mode: u32, a: f32) -> f32
-    ensures { λ r. ⌜ r ≡ leanStrength mode a ⌝ }
-{
-    match mode {
-        6 => -a * LEAN_MAX,
-        7 => a * LEAN_MAX,
-        _ => (1.0 - a * 2.0) * LEAN_MAX,
-    }
 }

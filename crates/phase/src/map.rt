@@ -1,17 +1,12 @@
 // The maps: one function for each arm of the Rust's `map`, each saying what it makes of one read,
 // `word` weighted `gain`, at amount `a` with crossfades `half` cycles either side of each edge.
-use crate::branches::Branches;
-use crate::edge::LEAN_MAX;
 use crate::edge::lean_offset;
-use crate::edge::lean_strength;
-use crate::edge::pinch_strength;
 use crate::edge::remap;
 use crate::edge::smooth_box;
 use crate::edge::unit;
 use crate::edge::wrap;
 use crate::power::map_power;
 use crate::quantise::quantise;
-use crate::reads::ReadList;
 use floats::floor;
 use lanes::Numbers;
 use lanes::above;
@@ -27,15 +22,19 @@ use lanes::signed;
 use lanes::sin_cycles;
 use lanes::smoothstep;
 use lanes::to_word;
+use reads::Branches;
+use reads::ReadList;
+use slope::LEAN_MAX;
+use slope::PULSE_MAX;
+use slope::lean_strength;
+use slope::pinch_strength;
 ghost use mathlib.Core.Path.{_≡_};
 ghost use Prim.Native.Nat.{_<_, _≤_};
 ghost use lib.ListN.{length};
 ghost use Rattle.floats.specs.Exp2.{entries};
-ghost use Rattle.phase.specs.Map.{syncMap, pinchMap, leanMap, pulseWidthMap, flipMap, mirrorMap, oddEvenMap, remapDrawnMap, remapMirroredMap, remapQuadMap, remapSineMap, mapOf, applyOf, shiftOf};
-ghost use Rattle.phase.specs.Branches.{Makes};
+ghost use Rattle.reads.specs.Branches.{Makes};
+ghost use Rattle.phase.specs.Map.{syncMap, pinchMap, leanMap, pulseWidthMap, flipMap, mirrorMap, oddEvenMap, remapDrawnMap, remapMirroredMap, remapQuadMap, remapSineMap, mapOf, applyOf};
 ghost use Rattle.phase.specs.Power.{ratioOf, mapPower};
-
-pub const PULSE_MAX: f32 = 0.95;
 
 const FRAC_1_PI: f32 = 0.31830987;
 
@@ -306,28 +305,4 @@ pub fn apply(
 {
     let power = map_power(powers, slot.mode, amount);
     apply_with(numbers, curve, slot, amount, power, half, list)
-}
-
-// Moves every read in `list` on by `offset` words: where an inter-oscillator mode adds its own phase. A
-// list of none has one word in use.
-pub fn shift(list: ReadList, offset: u32) -> ReadList
-    requires { ⌜ list .count ≤ 4 ⌝ }
-    ensures { λ r. ⌜ r ≡ shiftOf list offset ⌝ }
-{
-    let n = list.count;
-    let mut out = list;
-    out.word[0] = add_words(out.word[0], offset);
-    if n < 2 {
-        return out;
-    }
-    out.word[1] = add_words(out.word[1], offset);
-    if n < 3 {
-        return out;
-    }
-    out.word[2] = add_words(out.word[2], offset);
-    if n < 4 {
-        return out;
-    }
-    out.word[3] = add_words(out.word[3], offset);
-    out
 }

@@ -1,7 +1,6 @@
 // Quantise: `steps` steps a cycle, each holding the wave's value at its start, crossfaded into the
 // next over at most half a step; as the steps grow shorter than a crossfade, both reads move onto the
 // running phase, so the steps fade into the plain wave instead of folding.
-use crate::branches::Branches;
 use floats::abs;
 use floats::floor;
 use lanes::above;
@@ -11,9 +10,10 @@ use lanes::pick;
 use lanes::signed;
 use lanes::smoothstep;
 use lanes::to_word;
+use reads::Branches;
 ghost use mathlib.Core.Path.{_≡_};
+ghost use Rattle.reads.specs.Branches.{Makes};
 ghost use Rattle.phase.specs.Quantise.{stepsOf, lineOf, edgeOf, branchOf, quantiseOf};
-ghost use Rattle.phase.specs.Branches.{Makes};
 ghost use Rattle.phase.specs.Power.{stepCount};
 
 // f32::MAX.

@@ -1,18 +1,18 @@
 // What the reads that two slots make of one add up to, with no list between: a run that asks for the
 // sum alone keeps slot 1's one or two reads, and slot 0's one or two of each, in registers. The reads
 // move on by `offset` words, if `moves`.
-use crate::branches::Branches;
 use crate::map::Slot;
 use crate::map::map;
-use crate::reads::read_cycle;
 use lanes::Numbers;
 use lanes::add_words;
+use reads::Branches;
+use reads::read_cycle;
 ghost use mathlib.Core.Path.{_≡_};
 ghost use Prim.Native.Nat.{_<_, _≤_};
 ghost use lib.ListN.{length};
 ghost use mathlib.Core.Bool.{true};
-ghost use Rattle.phase.specs.Reads.{startOf, outgoingOf, readSum};
-ghost use Rattle.phase.specs.Branches.{Makes};
+ghost use Rattle.reads.specs.Reads.{startOf, outgoingOf, readSum};
+ghost use Rattle.reads.specs.Branches.{Makes};
 ghost use Rattle.phase.specs.Power.{mapPower};
 ghost use Rattle.phase.specs.Sums.{readAt, productsAfter, productsOf, sumOne, sumTwo, mapIf, applyIf, shiftIf};
 

@@ -7,9 +7,9 @@ use lib.ListN.{length, getD, replicate}
 use lib.Ieee.{Float}
 use Rattle.floats.specs.F32.{_⊗_, 0f}
 use Rattle.floats.specs.Steps.{_>>=_}
-use Rattle.phase.specs.declared.reads.LaneReads.{LaneReads}
+use Rattle.reads.specs.declared.lists.LaneReads.{LaneReads}
+use Rattle.reads.specs.Reads.{startOf, outgoingOf, readSum}
 use Rattle.phase.specs.declared.map.Slot.{Slot}
-use Rattle.phase.specs.Reads.{startOf, outgoingOf, readSum}
 use Rattle.phase.specs.Map.{applyOf}
 use Rattle.probe.specs.declared.phases.Slots.{Slots}
 

@@ -1,16 +1,17 @@
 // The phase side: the curve, stretch, and read lists of two slots.
 use floats::POWERS;
 use lanes::Numbers;
-use phase::LaneReads;
-use phase::ReadList;
+use limits::Value;
 use phase::Slot;
+use reads::LaneReads;
+use reads::ReadList;
 ghost use mathlib.Core.Path.{_≡_};
 ghost use Prim.Native.Nat.{min, _<_, _≤_};
 ghost use lib.ListN.{length};
 ghost use Rattle.floats.specs.Exp2.{entries};
 ghost use Rattle.curve.specs.Curve.{valueOf, steepestOf};
 ghost use Rattle.curve.specs.Answers.{answered};
-ghost use Rattle.phase.specs.Slope.{stretchAnswer};
+ghost use Rattle.slope.specs.Slope.{stretchAnswer};
 ghost use Rattle.probe.specs.Phases.{readsOf, readsOrNone, sampleOf, runLength};
 ghost use Rattle.probe.specs.Runs.{Ran};
 
@@ -26,24 +27,24 @@ pub struct Slots {
 }
 
 #[no_mangle]
-pub extern "C" fn probe_curve_value(curve: &[f32], x: f32) -> curve::Answer
+pub extern "C" fn probe_curve_value(curve: &[f32], x: f32) -> Value
     ensures { λ r. ⌜ r ≡ answered (now (curve .entry)) (valueOf (now (curve .entry)) x) ⌝ }
 {
     curve::value(curve, x)
 }
 
 #[no_mangle]
-pub extern "C" fn probe_curve_steepest(curve: &[f32]) -> curve::Answer
+pub extern "C" fn probe_curve_steepest(curve: &[f32]) -> Value
     ensures { λ r. ⌜ r ≡ answered (now (curve .entry)) (steepestOf (now (curve .entry))) ⌝ }
 {
     curve::steepest(curve)
 }
 
 #[no_mangle]
-pub extern "C" fn probe_stretch(mode: u32, amount: f32, curve: f32) -> phase::StretchAnswer
+pub extern "C" fn probe_stretch(mode: u32, amount: f32, curve: f32) -> Value
     ensures { λ r. ⌜ r ≡ stretchAnswer mode amount curve ⌝ }
 {
-    phase::stretch(mode, amount, curve)
+    slope::stretch(mode, amount, curve)
 }
 
 // The read list of two slots without offsets: slot 1 maps first, then slot 0 with half width times
@@ -80,7 +81,7 @@ fn reads(
         half * inner,
         first,
     );
-    phase::outgoing(second)
+    reads::outgoing(second)
 }
 
 // The same as an export; zeros where the curve is too short.
@@ -139,7 +140,7 @@ pub extern "C" fn probe_reads_run(
     let mut i = 0;
     while i < n {
         let list = reads(&powers, numbers, curve, slots, half, inner, words[i]);
-        out[i] = phase::read_sum(cycle, list);
+        out[i] = reads::read_sum(cycle, list);
         i += 1;
     }
     i

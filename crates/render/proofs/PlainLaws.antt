@@ -15,7 +15,7 @@ use Rattle.grid.proofs.FunctionLaws.{span-by, span-in, span-above, span-none, s
 use Rattle.grid.proofs.CellLaws.{col-at, col-set, col-set-other, getD-column}
 use Rattle.grid.proofs.EachLaws.{each-one, each-same, one-lane, one-others}
 use Rattle.grid.proofs.Index.{row-in}
-use Rattle.phase.specs.Reads.{oneRead, cycleAt, readSum}
+use Rattle.reads.specs.Reads.{oneRead, cycleAt, readSum}
 use Rattle.wave.specs.Slot.{inWave}
 use Rattle.voice.specs.PhaseRun.{inPhase, readsOf}
 use Rattle.voice.specs.WaveRun.{tracks, shapedOf}

@@ -7,7 +7,7 @@ use lib.Ieee.{Float, nan}
 use Rattle.floats.specs.Steps.{_>>=_}
 use Rattle.grid.specs.Cells.{column}
 use Rattle.limits.specs.Lengths.{spansOf, curveLength, cycleLength}
-use Rattle.phase.specs.Reads.{readSum}
+use Rattle.reads.specs.Reads.{readSum}
 use Rattle.voice.specs.declared.phase_run.Reads.{Reads}
 use Rattle.voice.specs.declared.wave_run.Shaped.{Shaped}
 use Rattle.controls.specs.Controls.{Controls, ControlBuffers, controlsOf}

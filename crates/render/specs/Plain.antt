@@ -5,7 +5,7 @@ use Prim.Native.Nat.{ℕ, _+_, _*_, _≤_, _<_}
 use lib.Ieee.{Float}
 use Rattle.grid.specs.Cells.{col}
 use Rattle.limits.specs.Lengths.{cycleLength}
-use Rattle.phase.specs.Reads.{cycleAt}
+use Rattle.reads.specs.Reads.{cycleAt}
 use Rattle.wave.specs.Slot.{inWave}
 use Rattle.voice.specs.PhaseRun.{inPhase}
 

@@ -1,7 +1,7 @@
 // A lane that no slot shapes: each rendered frame is the cycle's sample at the running word, and the state
 // stays.
 use grid::place;
-use phase::read_cycle;
+use reads::read_cycle;
 use voice::in_phase;
 use wave::in_wave;
 ghost use mathlib.Core.Path.{_≡_};

@@ -10,7 +10,7 @@ use Rattle.floats.specs.F32.{0f}
 use Rattle.grid.proofs.CellLaws.{same-columns}
 use Rattle.grid.proofs.EachLaws.{each-unique}
 use Rattle.limits.specs.declared.answers.Valued.{Valued}
-use Rattle.phase.specs.declared.reads.LaneReads.{LaneReads}
+use Rattle.reads.specs.declared.lists.LaneReads.{LaneReads}
 use Rattle.controls.specs.Controls.{ControlBuffers, controlLengths}
 use Rattle.shaper.specs.declared.settings.Settings.{Settings}
 use Rattle.shaper.specs.declared.settings.Range.{Range}

@@ -10,7 +10,7 @@ use Rattle.floats.specs.F32.{0f}
 use Rattle.grid.specs.Cells.{col, column, columns}
 use Rattle.grid.specs.Lanes.{Each}
 use Rattle.limits.specs.Lengths.{spansOf, curveLength}
-use Rattle.phase.specs.declared.reads.LaneReads.{LaneReads}
+use Rattle.reads.specs.declared.lists.LaneReads.{LaneReads}
 use Rattle.voice.specs.declared.phase_run.Reads.{Reads}
 use Rattle.controls.specs.Controls.{Controls, ControlBuffers, controlLengths, controlsOf}
 use Rattle.shaper.specs.declared.settings.Settings.{Settings}

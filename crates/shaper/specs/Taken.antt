@@ -9,7 +9,7 @@ use Rattle.grid.specs.Cells.{columns}
 use Rattle.grid.specs.Lanes.{Each}
 use Rattle.limits.specs.declared.lengths.ControlLengths.{ControlLengths}
 use Rattle.limits.specs.Lengths.{curveLength, spanLength, ControlsHeld}
-use Rattle.phase.specs.declared.reads.LaneReads.{LaneReads}
+use Rattle.reads.specs.declared.lists.LaneReads.{LaneReads}
 use Rattle.wave.specs.declared.filters.Svf.{Svf}
 use Rattle.voice.specs.declared.phase_run.Reads.{Reads}
 use Rattle.voice.specs.declared.wave_run.Shaped.{Shaped}

@@ -12,7 +12,7 @@ use crate::settings::Settings;
 use grid::place;
 use limits::ControlLengths;
 use limits::Valued;
-use phase::LaneReads;
+use reads::LaneReads;
 ghost use mathlib.Core.Path.{_≡_};
 ghost use lib.ListN.{length};
 ghost use Rattle.controls.specs.Controls.{controlBuffers, controlLengths};

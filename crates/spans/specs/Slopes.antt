@@ -12,7 +12,7 @@ use Rattle.lanes.specs.Lane.{minOf, maxOf}
 use Rattle.lanes.specs.Word.{two32}
 use Rattle.modes.specs.Facts.{Answer, given, refused, thruZero, exponential, linear, Modulated, fm, phaseDistortion, am, ring}
 use Rattle.modes.specs.Table.{modulatedOf, distortionOf}
-use Rattle.phase.specs.Slope.{stretchOf}
+use Rattle.slope.specs.Slope.{stretchOf}
 use Rattle.voice.specs.PhaseRun.{whole, inPhase, fmExponential}
 use Rattle.limits.specs.Lengths.{subBlock}
 use Rattle.controls.specs.Controls.{Controls}

@@ -7,7 +7,7 @@ use lanes::min;
 use limits::SUB_BLOCK;
 use modes::FlagFact;
 use modes::ModulatedFact;
-use phase::stretch_of;
+use slope::stretch_of;
 use voice::FM_MAX_HZ;
 use voice::PD_MAX_CYCLES;
 use voice::fm_exponential;

@@ -5,9 +5,10 @@ use mathlib.Core.Bool.{Bool, true, false}
 use mathlib.Core.List.{List}
 use lib.Ieee.{Float}
 use Rattle.floats.specs.Steps.{_>>=_, if_then_else_}
-use Rattle.phase.specs.declared.reads.ReadList.{ReadList}
+use Rattle.reads.specs.declared.lists.ReadList.{ReadList}
+use Rattle.reads.proofs.Few.{Few, shift-few}
 use Rattle.phase.specs.declared.map.Slot.{Slot}
-use Rattle.phase.proofs.Few.{Few, apply-few, shift-few}
+use Rattle.phase.proofs.Few.{apply-few}
 use Rattle.voice.specs.declared.control.Control.{Control}
 use Rattle.voice.specs.declared.phase_run.Moved.{Moved}
 use Rattle.voice.specs.PhaseRun.{mapSlot, movedOf}

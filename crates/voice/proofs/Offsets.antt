@@ -7,8 +7,8 @@ use mathlib.Core.List.{List, [], _∷_}
 use lib.Ieee.{Float}
 use Rattle.floats.specs.Steps.{_>>=_, if_then_else_}
 use Rattle.lanes.specs.Word.{addWords}
-use Rattle.phase.specs.declared.reads.ReadList.{ReadList}
-use Rattle.phase.specs.Map.{moveFirst, shiftOf}
+use Rattle.reads.specs.declared.lists.ReadList.{ReadList}
+use Rattle.reads.specs.Reads.{moveFirst, shiftOf}
 use Rattle.voice.specs.declared.control.Control.{Control}
 use Rattle.voice.specs.declared.phase_run.Offset.{Offset}
 use Rattle.voice.specs.declared.phase_run.Moved.{Moved}

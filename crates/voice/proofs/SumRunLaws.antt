@@ -8,10 +8,9 @@ use lib.Ieee.{Float}
 use Rattle.floats.specs.F32.{_⊗_, 2f, half}
 use Rattle.floats.specs.Steps.{_>>=_, if_then_else_, left}
 use Rattle.lanes.specs.Word.{addWords}
-use Rattle.phase.specs.declared.reads.ReadList.{ReadList}
+use Rattle.reads.specs.declared.lists.ReadList.{ReadList}
+use Rattle.reads.specs.Reads.{startOf, moveFirst, shiftOf, outgoingOf, oneRead, cycleAt, readSum}
 use Rattle.phase.specs.declared.map.Slot.{Slot}
-use Rattle.phase.specs.Reads.{startOf, outgoingOf, oneRead, cycleAt, readSum}
-use Rattle.phase.specs.Map.{moveFirst, shiftOf}
 use Rattle.phase.specs.Sums.{applyIf, shiftIf}
 use Rattle.voice.specs.declared.control.Control.{Control}
 use Rattle.voice.specs.declared.phase_run.Offset.{Offset}

@@ -14,10 +14,10 @@ use Rattle.lanes.specs.Lane.{maxOf}
 use Rattle.lanes.specs.Word.{signedOf, toWord}
 use Rattle.modes.specs.Facts.{Answer, given, refused, Source, osc1, osc2, noise, sub, filter1, filter2, own, Stage, isPhase, FmType, thruZero, exponential, linear, Modulated, fm, phaseDistortion, am, ring}
 use Rattle.modes.specs.Table.{sourceOf, stageOf, modulatedOf}
-use Rattle.phase.specs.declared.reads.ReadList.{ReadList}
+use Rattle.reads.specs.declared.lists.ReadList.{ReadList}
+use Rattle.reads.specs.Reads.{oneRead, startOf, shiftOf, outgoingOf}
 use Rattle.phase.specs.declared.map.Slot.{Slot}
-use Rattle.phase.specs.Reads.{oneRead, startOf, outgoingOf}
-use Rattle.phase.specs.Map.{applyOf, shiftOf}
+use Rattle.phase.specs.Map.{applyOf}
 use Rattle.wave.specs.Slot.{isModulated}
 use Rattle.voice.specs.declared.control.Control.{Control}
 use Rattle.voice.specs.declared.phase_run.Offset.{Offset}

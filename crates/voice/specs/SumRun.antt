@@ -4,7 +4,7 @@ use mathlib.Core.Bool.{true, false, _&&_}
 use mathlib.Core.List.{List}
 use lib.Ieee.{Float}
 use Rattle.floats.specs.Steps.{_>>=_, if_then_else_}
-use Rattle.phase.specs.Reads.{readSum}
+use Rattle.reads.specs.Reads.{readSum}
 use Rattle.wave.specs.Slot.{isModulated}
 use Rattle.voice.specs.declared.control.Control.{Control}
 use Rattle.voice.specs.declared.phase_run.Reads.{Reads}

@@ -10,9 +10,9 @@ use lanes::to_word;
 use modes::ModulatedFact;
 use modes::SourceFact;
 use modes::StageFact;
-use phase::LaneReads;
-use phase::ReadList;
 use phase::Slot;
+use reads::LaneReads;
+use reads::ReadList;
 use wave::is_modulated;
 ghost use mathlib.Core.Path.{_≡_};
 ghost use Prim.Native.Nat.{_<_, _≤_};
@@ -173,7 +173,7 @@ fn move_on(
     if is_modulated(mode) & control.sourced {
         let offset = offset_of(powers, mode, control, scale, increment, carry);
         return Moved {
-            list: phase::shift(list, offset.word),
+            list: reads::shift(list, offset.word),
             carry: offset.carry,
         };
     }
@@ -238,7 +238,7 @@ fn list_of(
         fm0,
     );
     Reads {
-        reads: phase::outgoing(moved0.list),
+        reads: reads::outgoing(moved0.list),
         fm0: moved0.carry,
         fm1: moved1.carry,
     }

@@ -9,7 +9,7 @@ use lanes::add_words;
 use lanes::signed;
 use phase::Slot;
 use phase::mapped_sum;
-use phase::read_cycle;
+use reads::read_cycle;
 use wave::is_modulated;
 ghost use mathlib.Core.Path.{_≡_};
 ghost use Prim.Native.Nat.{_<_, _≤_};

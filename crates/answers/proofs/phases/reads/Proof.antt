@@ -1,7 +1,8 @@
 -- `answers::reads` is safe: each list has four reads at most. Assumes nothing.
 use mathlib.Core.Path.{_≡_, sym, subst}
 use borrow.Author.Needs.{needs}
-use Rattle.phase.proofs.Few.{Few, start-few, apply-few}
+use Rattle.reads.proofs.Few.{Few, start-few}
+use Rattle.phase.proofs.Few.{apply-few}
 use Rattle.answers.proofs.phases.reads.Statement.{statement}
 use Rattle.answers.proofs.phases.reads.Tie as tie
 

@@ -1,7 +1,7 @@
 -- `phase::apply_with` meets its contract: each read's branches are appended as the definition maps it. Assumes nothing.
 use mathlib.Core.Path.{_≡_}
 use native.Mathlib.Omega.{arith}
-use Rattle.phase.specs.Reads.{emptyOf}
+use Rattle.reads.specs.Reads.{emptyOf}
 use Rattle.phase.specs.Map.{mapped, emptied, applyOf}
 use borrow.Author.Needs.{needs}
 use Rattle.phase.proofs.map.apply_with.Statement.{statement}

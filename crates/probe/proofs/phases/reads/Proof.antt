@@ -3,8 +3,9 @@ use mathlib.Core.Path.{_≡_, sym, subst}
 use Prim.Native.Nat.{_≤_}
 use borrow.Author.Needs.{needs}
 use Rattle.floats.specs.Steps.{steps}
-use Rattle.phase.specs.declared.reads.ReadList.{ReadList}
-use Rattle.phase.proofs.Few.{Few, start-few, apply-few, outgoing-few}
+use Rattle.reads.specs.declared.lists.ReadList.{ReadList}
+use Rattle.reads.proofs.Few.{Few, start-few, outgoing-few}
+use Rattle.phase.proofs.Few.{apply-few}
 use Rattle.probe.specs.Phases.{readsOf}
 use Rattle.probe.proofs.phases.reads.Statement.{statement}
 use Rattle.probe.proofs.phases.reads.Tie as tie

@@ -2,7 +2,7 @@
 use borrow.Author.Needs.{needs}
 use mathlib.Core.Path.{ap}
 use Rattle.floats.specs.Steps.{given, step}
-use Rattle.phase.proofs.Few.{Few, start-few, outgoing-few}
+use Rattle.reads.proofs.Few.{Few, start-few, outgoing-few}
 use Rattle.voice.specs.PhaseRun.{listOf}
 use Rattle.voice.proofs.Counts.{as-ensured, mapped-few, moved-few}
 use Rattle.voice.proofs.phase_run.list_of.Statement.{statement}

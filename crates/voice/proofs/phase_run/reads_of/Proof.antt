@@ -2,7 +2,7 @@
 use borrow.Author.Needs.{needs}
 use native.Mathlib.Omega.{arith}
 use Rattle.floats.specs.Steps.{given, taken, left}
-use Rattle.phase.specs.Reads.{oneRead}
+use Rattle.reads.specs.Reads.{oneRead}
 use Rattle.voice.specs.PhaseRun.{readsOf}
 use Rattle.voice.proofs.phase_run.reads_of.Statement.{statement}
 use Rattle.voice.proofs.phase_run.reads_of.Tie as tie

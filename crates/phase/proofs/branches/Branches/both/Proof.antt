@@ -1,7 +1,0 @@
--- `phase::both` meets its contract. Assumes nothing.
-use Rattle.phase.proofs.Appends.{both-made}
-use Rattle.phase.proofs.branches.Branches.both.Statement.{statement}
-use Rattle.phase.proofs.branches.Branches.both.Tie as tie
-
-pub both-spec : {M : Type 1} → statement M
-both-spec = tie.close (tie.spec (λ c. both-made _ _ _ _))

@@ -1,7 +1,0 @@
--- `phase::one` meets its contract. Assumes nothing.
-use Rattle.phase.proofs.Appends.{one-made}
-use Rattle.phase.proofs.branches.Branches.one.Statement.{statement}
-use Rattle.phase.proofs.branches.Branches.one.Tie as tie
-
-pub one-spec : {M : Type 1} → statement M
-one-spec = tie.close (tie.spec (λ c. one-made _ _ _ _))

@@ -1,0 +1,3 @@
+pub mod Appends
+pub mod Few
+pub mod Moves

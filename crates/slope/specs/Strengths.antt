@@ -1,0 +1,30 @@
+-- The strengths of phase.rs's maps. Definitions only.
+use Prim.Native.Nat.{ℕ}
+use mathlib.Core.List.{[], _∷_}
+use lib.Ieee as Ieee
+use lib.Ieee.{Float}
+use Rattle.floats.specs.F32.{_⊖_, _⊗_, bits, 1f, 2f}
+use Rattle.modes.specs.Mode.{numberOf, PinchIn, PinchOut, LeanRight, LeanLeft}
+use Rattle.modes.specs.Choice.{Case, _⇒_, caseOf}
+
+-- PINCH_MAX, LEAN_MAX, PULSE_MAX
+abbrev pub pinchMax : Float
+pinchMax = bits 0x3f4c_cccd
+
+abbrev pub leanMax : Float
+leanMax = bits 0x3fe6_6666
+
+abbrev pub pulseMax : Float
+pulseMax = bits 0x3f73_3333
+
+unfoldable pub pinchStrength : ℕ → Float → Float
+pinchStrength mode a =
+    caseOf mode
+    ((numberOf PinchIn ⇒ a ⊗ pinchMax) ∷ (numberOf PinchOut ⇒ Ieee.neg a ⊗ pinchMax) ∷ [])
+    ((a ⊗ 2f ⊖ 1f) ⊗ pinchMax)
+
+unfoldable pub leanStrength : ℕ → Float → Float
+leanStrength mode a =
+    caseOf mode
+    ((numberOf LeanRight ⇒ Ieee.neg a ⊗ leanMax) ∷ (numberOf LeanLeft ⇒ a ⊗ leanMax) ∷ [])
+    ((1f ⊖ a ⊗ 2f) ⊗ leanMax)

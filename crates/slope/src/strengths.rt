@@ -1,0 +1,31 @@
+// How strongly the maps bend the phase: the numbers that a map and its slope share.
+ghost use mathlib.Core.Path.{_≡_};
+ghost use Rattle.slope.specs.Strengths.{pinchStrength, leanStrength};
+
+pub const PINCH_MAX: f32 = 0.8;
+
+pub const LEAN_MAX: f32 = 1.8;
+
+pub const PULSE_MAX: f32 = 0.95;
+
+// The pinch map's strength, -`PINCH_MAX` (out) to +`PINCH_MAX` (in).
+pub fn pinch_strength(mode: u32, a: f32) -> f32
+    ensures { λ r. ⌜ r ≡ pinchStrength mode a ⌝ }
+{
+    match mode {
+        2 => a * PINCH_MAX,
+        3 => -a * PINCH_MAX,
+        _ => (a * 2.0 - 1.0) * PINCH_MAX,
+    }
+}
+
+// The lean map's strength: negative leans right (the cycle's content later), positive left.
+pub fn lean_strength(mode: u32, a: f32) -> f32
+    ensures { λ r. ⌜ r ≡ leanStrength mode a ⌝ }
+{
+    match mode {
+        6 => -a * LEAN_MAX,
+        7 => a * LEAN_MAX,
+        _ => (1.0 - a * 2.0) * LEAN_MAX,
+    }
+}
