@@ -1,7 +1,8 @@
 // The spans of a block.
 use limits::Answer;
 use limits::Valued;
-ghost use Rattle.spans.specs.Prepared.{lent, spans, Prepared};
+ghost use Rattle.controls.specs.Controls.{controlBuffers};
+ghost use Rattle.spans.specs.Prepared.{spans, Prepared};
 ghost use Rattle.spans.specs.Asked.{Faster};
 
 // `shaper::prepare`.
@@ -26,7 +27,7 @@ pub extern "C" fn shaper_prepare(
     add: &mut [f32],
 ) -> Answer
     ensures { λ r. ⌜ Prepared mode0 mode1 factor lanes active frames rate
-        (lent (now (base0 .entry)) (now (base1 .entry)) (now (mod0 .entry)) (now (mod1 .entry)) (now (source0 .entry)) (now (source1 .entry)) (now (curve .entry)))
+        (controlBuffers (now (base0 .entry)) (now (base1 .entry)) (now (mod0 .entry)) (now (mod1 .entry)) (now (source0 .entry)) (now (source1 .entry))) (now (curve .entry))
         (spans (now (inner .entry)) (now (stretch .entry)) (now (add .entry))) (spans (now (inner .exit)) (now (stretch .exit)) (now (add .exit))) r ⌝ }
 {
     spans::prepare(

@@ -10,6 +10,7 @@ use Rattle.limits.specs.Lines.{firstOf}
 use Rattle.limits.specs.Lengths.{spansOf}
 use Rattle.halfband.specs.Floats.{cardDesigns}
 use Rattle.render.specs.declared.cells.BlockSettings.{BlockSettings}
+use Rattle.controls.specs.Controls.{controlBuffers}
 use Rattle.render.specs.Lane.{Lent}
 use Rattle.render.specs.Share.{Buffers}
 use Rattle.block.specs.Refusal.{blockRefusal}
@@ -39,12 +40,7 @@ settings =
 lent : Lent
 lent =
     record {
-      base0 = replicate 2 half;
-      base1 = replicate 2 half;
-      mod0 = replicate 12 half;
-      mod1 = [];
-      source0 = [];
-      source1 = replicate 12 half;
+      controls = controlBuffers (replicate 2 half) (replicate 2 half) (replicate 12 half) [] [] (replicate 12 half);
       curve = replicate 1025 half;
       cycle = replicate 2048 half;
       words = replicate 48 0;

@@ -67,14 +67,7 @@ pub fn frame_bad(factor: u32, frames: u32, first: u32, count: u32, frame: u32) -
 }
 
 // Line 4, for `PhaseRun::stretch`.
-pub fn asked_bad(
-    factor: u32,
-    frames: u32,
-    first: u32,
-    count: u32,
-    from: u32,
-    asked: u32,
-) -> bool
+pub fn asked_bad(factor: u32, frames: u32, first: u32, count: u32, from: u32, asked: u32) -> bool
     ensures { λ r. ⌜ r ≡ badAsked factor frames first count from asked ⌝ }
 {
     frame_bad(factor, frames, first, count, from)

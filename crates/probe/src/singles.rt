@@ -8,7 +8,8 @@ use shaper::ReadsAnswer;
 use shaper::Settings;
 ghost use mathlib.Core.Path.{_≡_};
 ghost use Rattle.voice.specs.PhaseRun.{fmExponential};
-ghost use Rattle.shaper.specs.ReadsCall.{lent, ReadsCall};
+ghost use Rattle.controls.specs.Controls.{controlBuffers};
+ghost use Rattle.shaper.specs.ReadsCall.{ReadsCall};
 ghost use Rattle.shaper.specs.SampleCall.{SampleCall};
 ghost use Rattle.probe.specs.Singles.{settings, range};
 
@@ -50,7 +51,7 @@ pub extern "C" fn probe_reads_lane(
     last: &[f32],
 ) -> ReadsAnswer
     ensures { λ a. ⌜ ReadsCall (settings mode0 mode1 character0 character1 factor lanes frames numbers) rate active lane (range first count) frame word step
-        (lent (now (base0 .entry)) (now (base1 .entry)) (now (mod0 .entry)) (now (mod1 .entry)) (now (source0 .entry)) (now (source1 .entry)))
+        (controlBuffers (now (base0 .entry)) (now (base1 .entry)) (now (mod0 .entry)) (now (mod1 .entry)) (now (source0 .entry)) (now (source1 .entry)))
         (now (curve .entry)) (now (inner .entry)) (now (fm .entry)) (now (fm .exit)) (now (last .entry)) a ⌝ }
 {
     let s = Settings {
@@ -117,7 +118,7 @@ pub extern "C" fn probe_shape_at_lane(
     last: &mut [f32],
 ) -> Valued
     ensures { λ a. ⌜ SampleCall (settings mode0 mode1 character0 character1 factor lanes frames numbers) active lane (range first count) frame step x
-        (lent (now (base0 .entry)) (now (base1 .entry)) (now (mod0 .entry)) (now (mod1 .entry)) (now (source0 .entry)) (now (source1 .entry)))
+        (controlBuffers (now (base0 .entry)) (now (base1 .entry)) (now (mod0 .entry)) (now (mod1 .entry)) (now (source0 .entry)) (now (source1 .entry)))
         (now (pairs .entry)) (now (last .entry)) (now (pairs .exit)) (now (last .exit)) a ⌝ }
 {
     let s = Settings {

@@ -186,7 +186,8 @@ fn added_of(
     let modulated = modes::modulated(mode);
     match modulated {
         ModulatedFact::FmThruZero => add + fm_slope(a, w.peak, per_hertz),
-        ModulatedFact::FmExponential => add + fm_slope(a, fm_exponential(powers, w.peak), per_hertz),
+        ModulatedFact::FmExponential => add
+            + fm_slope(a, fm_exponential(powers, w.peak), per_hertz),
         ModulatedFact::FmLinear => add + fm_slope(a, w.peak, per_hertz),
         ModulatedFact::PhaseDistortion => add + pd_slope(a, w.step, factor),
         _ => add,

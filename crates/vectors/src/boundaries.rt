@@ -4,8 +4,8 @@ use block::BlockSettings;
 use block::ReadLengths;
 use block::WriteLengths;
 use halfband::card_designs;
+use limits::ControlLengths;
 use phase::Slot;
-use shaper::ControlLengths;
 use shaper::Range;
 use shaper::Settings;
 use spans::refusal::PrepareLengths;
@@ -46,14 +46,20 @@ fn boundary_at(i: u64) -> Boundary {
 // As long as the longest buffer that a call asks for: 8 x 4,096 x 64 cells.
 const LONG: usize = 0x20_0000;
 
-fn prepare_number(b: Boundary) -> u32 {
-    let lengths = PrepareLengths {
+fn long_controls() -> ControlLengths {
+    ControlLengths {
         base0: LONG,
         base1: LONG,
         mod0: LONG,
         mod1: LONG,
         source0: LONG,
         source1: LONG,
+    }
+}
+
+fn prepare_number(b: Boundary) -> u32 {
+    let lengths = PrepareLengths {
+        controls: long_controls(),
         curve: b.entries,
         inner: LONG,
         stretch: LONG,
@@ -96,16 +102,8 @@ fn run_number(b: Boundary) -> u32 {
         first: 0,
         count: b.frames,
     };
-    let controls = ControlLengths {
-        base0: LONG,
-        base1: LONG,
-        mod0: LONG,
-        mod1: LONG,
-        source0: LONG,
-        source1: LONG,
-    };
     let reads = ReadLengths {
-        controls,
+        controls: long_controls(),
         curve: b.entries,
         cycle: LONG,
         words: LONG,

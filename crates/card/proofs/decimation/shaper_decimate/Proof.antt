@@ -2,7 +2,7 @@
 use mathlib.Core.Path.{_≡_, sym, _∙_}
 use denote.Ref.{now}
 use borrow.Author.Needs.{needs}
-use Rattle.limits.proofs.LineLaws.{good-coefs}
+use Rattle.limits.proofs.LengthLaws.{long-enough}
 use Rattle.halfband.specs.Floats.{designsOf}
 use Rattle.halfband.specs.Decimated.{callNumber}
 use Rattle.halfband.proofs.RefusalLaws.{accepted}
@@ -18,7 +18,7 @@ designs-of-requires : tie.Need-designs-of-requires
 unfolding designsOf
 designs-of-requires c κs =
     let s = c .before .before .before .before .before in
-    good-coefs _ (accepted (designsOf (now (s .args .coefs)) (s .args .count0) (s .args .count1) (s .args .count2)) _ _ _ _ _ _ _ (sym (c .before .refused .ensures) ∙ c .if1 .left) .read)
+    long-enough _ _ (accepted (designsOf (now (s .args .coefs)) (s .args .count0) (s .args .count1) (s .args .count2)) _ _ _ _ _ _ _ (sym (c .before .refused .ensures) ∙ c .if1 .left) .read)
 
 returns-2 : tie.Need-returns-2
 unfolding designsOf
