@@ -6,8 +6,8 @@ use Rattle.limits.specs.declared.answers.Answer.{Answer}
 use Rattle.shaper.specs.declared.settings.Range.{Range}
 use Rattle.render.specs.declared.cells.BlockSettings.{BlockSettings}
 use Rattle.render.specs.Lane.{Lent}
-use Rattle.render.specs.Share.{Buffers}
-use Rattle.render.specs.Promises.{Shared}
+use Rattle.share.specs.Share.{Buffers}
+use Rattle.share.specs.Promises.{Shared}
 use Rattle.block.specs.Refusal.{blockRefusal}
 use Rattle.block.specs.Call.{Meets, called, readLengths, writeLengths, refusalOf}
 use Rattle.block.proofs.RefusalLaws.{accepted-by-value}

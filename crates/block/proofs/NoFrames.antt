@@ -13,8 +13,8 @@ use Rattle.shaper.specs.declared.settings.Range.{Range}
 use Rattle.shaper.specs.Lane.{pair0, pair1, putPairs, putCarry}
 use Rattle.render.specs.declared.cells.BlockSettings.{BlockSettings}
 use Rattle.render.specs.declared.cells.Voice.{Voice}
-use Rattle.render.specs.Lane.{Inputs, voiceAfter, sampleAt}
-use Rattle.render.specs.Share.{Columns, enters, firstFrame, rendered, decimated, copied, share}
+use Rattle.render.specs.Lane.{Inputs, voiceAfter, sampleAt, firstFrame}
+use Rattle.share.specs.Share.{Columns, enters, rendered, decimated, copied, share}
 use Rattle.render.proofs.VoiceLaws.{voice-none}
 
 -- a state that is stored as it was

@@ -5,7 +5,7 @@ use native.Mathlib.Decide.{ℕ-discrete}
 use native.Mathlib.Omega.{arith}
 use Rattle.grid.specs.Lanes.{Each}
 use Rattle.grid.proofs.EachLaws.{each-id, each-none, each-same, each-unique}
-use Rattle.render.specs.Share.{columnsOf}
+use Rattle.share.specs.Share.{columnsOf}
 use Rattle.block.proofs.NoFrames.{share-still}
 use Rattle.block.specs.Call.{Call, Meets, refusalOf, lanesOf, inputs, shareOf}
 use Rattle.block.proofs.RefusalLaws.{call-taken}

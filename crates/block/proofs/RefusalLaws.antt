@@ -16,8 +16,9 @@ use Rattle.shaper.specs.declared.settings.Range.{Range}
 use Rattle.shaper.specs.Refusal.{modeLine}
 use Rattle.render.specs.declared.cells.BlockSettings.{BlockSettings}
 use Rattle.render.specs.Lane.{Lent}
-use Rattle.render.specs.Share.{Buffers}
-use Rattle.render.specs.Promises.{Limits, Readable, Writable}
+use Rattle.share.specs.Share.{Buffers}
+use Rattle.render.specs.Promises.{Limits, Readable}
+use Rattle.share.specs.Promises.{Writable}
 use Rattle.block.specs.declared.refusal.ReadLengths.{ReadLengths}
 use Rattle.block.specs.declared.refusal.WriteLengths.{WriteLengths}
 use Rattle.block.specs.Refusal.{rangeLine, countLine, lentShort, readsShort, writesShort, blockRefusal}

@@ -7,8 +7,8 @@ use Rattle.shaper.specs.declared.settings.Settings.{Settings}
 use Rattle.shaper.specs.declared.settings.Range.{Range}
 use Rattle.render.specs.declared.cells.BlockSettings.{BlockSettings}
 use Rattle.render.specs.Lane.{Lent}
-use Rattle.render.specs.Share.{Buffers}
-use Rattle.render.specs.Promises.{Writable, Sizes, Shared}
+use Rattle.share.specs.Share.{Buffers}
+use Rattle.share.specs.Promises.{Writable, Sizes, Shared}
 use Rattle.block.specs.Call.{writeLengths}
 
 -- ---- lengths

@@ -9,7 +9,7 @@ use lib.Dec.{eqb}
 use lib.Ieee.{nan}
 use Rattle.grid.proofs.CellLaws.{same-columns, same-blocks}
 use Rattle.grid.proofs.EachLaws.{each-unique}
-use Rattle.render.specs.Share.{Buffers, Columns, columnsOf}
+use Rattle.share.specs.Share.{Buffers, Columns, columnsOf}
 use Rattle.block.specs.declared.refusal.WriteLengths.{WriteLengths}
 use Rattle.block.specs.Call.{Call, Meets, writeLengths, refusalOf, lanesOf}
 use Rattle.block.proofs.RefusalLaws.{call-taken}

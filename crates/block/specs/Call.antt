@@ -10,7 +10,7 @@ use Rattle.controls.specs.Controls.{controlLengths}
 use Rattle.shaper.specs.declared.settings.Range.{Range}
 use Rattle.render.specs.declared.cells.BlockSettings.{BlockSettings}
 use Rattle.render.specs.Lane.{Lent, Inputs, inputsOf}
-use Rattle.render.specs.Share.{Buffers, Columns, columnsOf, share}
+use Rattle.share.specs.Share.{Buffers, Columns, columnsOf, share}
 use Rattle.block.specs.declared.refusal.ReadLengths.{ReadLengths}
 use Rattle.block.specs.declared.refusal.WriteLengths.{WriteLengths}
 use Rattle.block.specs.Refusal.{blockRefusal}

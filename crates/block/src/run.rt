@@ -7,13 +7,15 @@ use limits::COEFS_LENGTH;
 use limits::ControlLengths;
 use limits::NUMBERS_LENGTH;
 use render::BlockSettings;
-use render::run_lane;
 use shaper::Range;
+use share::run_lane;
 ghost use mathlib.Core.Path.{_≡_};
 ghost use Prim.Native.Nat.{_≤_};
 ghost use Rattle.floats.specs.Exp2.{entries};
 ghost use Rattle.limits.specs.Lengths.{coefsLength, numbersLength};
-ghost use Rattle.render.specs.Promises.{lent, buffers, Limits, Readable, Writable, Shared};
+ghost use Rattle.render.specs.Promises.{lent, Limits, Readable};
+ghost use Rattle.share.specs.Share.{buffers};
+ghost use Rattle.share.specs.Promises.{Writable, Shared};
 ghost use Rattle.block.specs.Call.{called, Meets};
 
 // The active lanes, one after another: no lane looks at another's numbers.

@@ -15,7 +15,8 @@ ghost use mathlib.Core.Path.{_≡_};
 ghost use Prim.Native.Nat.{_≤_};
 ghost use lib.ListN.{length, replicate};
 ghost use Rattle.floats.specs.F32.{0f};
-ghost use Rattle.render.specs.Promises.{lent, buffers};
+ghost use Rattle.render.specs.Promises.{lent};
+ghost use Rattle.share.specs.Share.{buffers};
 ghost use Rattle.block.specs.Call.{called, Meets};
 ghost use Rattle.block.specs.Numbers.{numbersOf, settingsOf, rangeOf};
 

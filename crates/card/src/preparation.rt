@@ -5,7 +5,7 @@ ghost use Rattle.controls.specs.Controls.{controlBuffers};
 ghost use Rattle.spans.specs.Prepared.{spans, Prepared};
 ghost use Rattle.spans.specs.Asked.{Faster};
 
-// `shaper::prepare`.
+// `prepare` of mod.rs.
 #[no_mangle]
 pub extern "C" fn shaper_prepare(
     mode0: u32,

@@ -1,7 +1,8 @@
 // The block run.
 use limits::Answer;
 ghost use lib.ListN.{length};
-ghost use Rattle.render.specs.Promises.{lent, buffers};
+ghost use Rattle.render.specs.Promises.{lent};
+ghost use Rattle.share.specs.Share.{buffers};
 ghost use Rattle.block.specs.Call.{called, Meets};
 ghost use Rattle.block.specs.Numbers.{settingsOf, rangeOf};
 

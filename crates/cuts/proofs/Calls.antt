@@ -14,7 +14,7 @@ use Rattle.grid.specs.Cells.{col, blk}
 use Rattle.grid.proofs.TableLaws.{same-table}
 use Rattle.grid.proofs.CellLaws.{col-of-blk}
 use Rattle.grid.proofs.EachLaws.{each-above}
-use Rattle.render.specs.Share.{Buffers, Columns, columnsOf}
+use Rattle.share.specs.Share.{Buffers, Columns, columnsOf}
 use Rattle.block.specs.Call.{Call, Meets, refusalOf, lanesOf, inputs, shareOf}
 use Rattle.block.proofs.RefusalLaws.{call-taken}
 use Rattle.cuts.specs.Cuts.{entering, leaving, Which, buffer, Carried, kept-back, lent-at, Around, rowsOf, Untouched, Outside}

@@ -12,7 +12,7 @@ use Rattle.halfband.specs.Floats.{cardDesigns}
 use Rattle.render.specs.declared.cells.BlockSettings.{BlockSettings}
 use Rattle.controls.specs.Controls.{controlBuffers}
 use Rattle.render.specs.Lane.{Lent}
-use Rattle.render.specs.Share.{Buffers}
+use Rattle.share.specs.Share.{Buffers}
 use Rattle.block.specs.Refusal.{blockRefusal}
 use Rattle.block.specs.Call.{Call, readLengths, writeLengths, refusalOf}
 use Rattle.cuts.specs.Cuts.{leaving, RunA, Agree, Demand3}

@@ -10,7 +10,7 @@ use Rattle.shaper.specs.declared.settings.Range.{Range}
 use Rattle.shaper.specs.Lane.{putPairs, putCarry}
 use Rattle.render.specs.declared.cells.BlockSettings.{BlockSettings}
 use Rattle.render.specs.Lane.{Inputs}
-use Rattle.render.specs.Share.{Columns, rendered, decimated, copied, share}
+use Rattle.share.specs.Share.{Columns, rendered, decimated, copied, share}
 use Rattle.cuts.proofs.Accepted.{Good}
 use Rattle.cuts.proofs.Decimator.{cascade-cells-past, cascade-rows-past}
 

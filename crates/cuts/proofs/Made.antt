@@ -20,8 +20,8 @@ use Rattle.shaper.specs.declared.settings.Settings.{Settings}
 use Rattle.shaper.specs.declared.settings.Range.{Range}
 use Rattle.render.specs.declared.cells.BlockSettings.{BlockSettings}
 use Rattle.render.specs.Lane.{Lent, inputsOf}
-use Rattle.render.specs.Share.{Buffers, Columns, columnsOf, share}
-use Rattle.render.specs.Promises.{Writable}
+use Rattle.share.specs.Share.{Buffers, Columns, columnsOf, share}
+use Rattle.share.specs.Promises.{Writable}
 use Rattle.block.specs.declared.refusal.WriteLengths.{WriteLengths}
 use Rattle.block.specs.Refusal.{blockRefusal}
 use Rattle.block.specs.Call.{Call, Meets, readLengths, writeLengths, refusalOf}

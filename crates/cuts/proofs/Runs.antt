@@ -15,8 +15,8 @@ use Rattle.halfband.specs.Ranges.{total}
 use Rattle.shaper.specs.declared.settings.Range.{Range}
 use Rattle.render.specs.declared.cells.BlockSettings.{BlockSettings}
 use Rattle.render.specs.Lane.{Lent}
-use Rattle.render.specs.Share.{Buffers}
-use Rattle.render.specs.Promises.{Writable}
+use Rattle.share.specs.Share.{Buffers}
+use Rattle.share.specs.Promises.{Writable}
 use Rattle.block.specs.Refusal.{blockRefusal}
 use Rattle.block.specs.Call.{Call, Meets, readLengths, writeLengths, refusalOf, lanesOf}
 use Rattle.block.proofs.RefusalLaws.{Passed, passes, line-frames, writable, all-long, call-passed}

@@ -18,8 +18,8 @@ use Rattle.shaper.specs.declared.settings.Range.{Range}
 use Rattle.shaper.specs.Lane.{putPairs, putCarry}
 use Rattle.render.specs.declared.cells.BlockSettings.{BlockSettings}
 use Rattle.render.specs.declared.cells.Voice.{Voice}
-use Rattle.render.specs.Lane.{Inputs, voiceAfter, sampleAt}
-use Rattle.render.specs.Share.{Columns, enters, firstFrame, frameCount, rendered, decimated, copied, share}
+use Rattle.render.specs.Lane.{Inputs, voiceAfter, sampleAt, firstFrame, frameCount}
+use Rattle.share.specs.Share.{Columns, enters, rendered, decimated, copied, share}
 use Rattle.cuts.proofs.Accepted.{Good}
 use Rattle.cuts.proofs.Decimator.{cascade-cells-past}
 use Rattle.cuts.proofs.Lane.{voice-add, voice-none, sample-add}

@@ -11,7 +11,7 @@ use lib.ListN.{getD, length}
 use lib.Ieee.{Float, nan}
 use Rattle.grid.specs.Functions.{table}
 use Rattle.grid.specs.Cells.{col, column}
-use Rattle.render.specs.Share.{Buffers}
+use Rattle.share.specs.Share.{Buffers}
 use Rattle.block.specs.Call.{Call, Meets, refusalOf, lanesOf, inputs}
 
 -- ---- a lane's state

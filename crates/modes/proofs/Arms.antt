@@ -9,7 +9,7 @@ use mathlib.Core.List.{List, [], _∷_, map}
 use lib.ListN.{length, replicate, getD}
 use types.Run.{OneOf}
 use denote.Enum.Declared.{tagOf}
-use Rattle.modes.specs.Facts.{Source, FmType, Modulated, Stage, osc1, osc2, noise, sub, filter1, filter2, own, thruZero, exponential, linear, fm, phaseDistortion, am, ring, off, phase, wave, Answer, given, refused}
+use Rattle.modes.specs.Facts.{Source, FmType, Modulated, Stage, osc1, osc2, noise, sub, filter1, filter2, own, thruZero, exponential, linear, fm, phaseDistortion, am, ring, off, phase, wave, Fact, given, refused}
 use Rattle.modes.specs.Says.{sourceSays, fmTypeSays, modulatedSays, stageSays, flagSays}
 use Rattle.modes.specs.declared.modulation.SourceFact.{SourceFact}
 use Rattle.modes.specs.declared.modulation.FmTypeFact.{FmTypeFact}
@@ -24,13 +24,13 @@ use Rattle.modes.proofs.shaping.FlagFact as FlagEnum
 use Rattle.modes.proofs.Ranges.{keys}
 
 -- what the k-th case says, of an enum that has these values and then the refusal
-abbrev pub case : {A : Type 0} → List A → ℕ → Answer A
+abbrev pub case : {A : Type 0} → List A → ℕ → Fact A
 case values k = getD (map given values) k (refused 1)
 
-pub record Cases {E A : Type 0} (says : E → Answer A) (tag : E → ℕ) (values : List A) : Type 0 where
+pub record Cases {E A : Type 0} (says : E → Fact A) (tag : E → ℕ) (values : List A) : Type 0 where
   pub said : (r : E) → says r ≡ case values (tag r)
 
-pub arm : {E A B : Type 0} {says : E → Answer A} {tag : E → ℕ} {values : List A} → Cases says tag values → (f : Answer A → B) (v : B) (ks : List ℕ) → map (λ (k : ℕ). f (case values k)) ks ≡ replicate (length ks) v → (r : E) {a : Answer A} → OneOf ks (tag r) → says r ≡ a → v ≡ f a
+pub arm : {E A B : Type 0} {says : E → Fact A} {tag : E → ℕ} {values : List A} → Cases says tag values → (f : Fact A → B) (v : B) (ks : List ℕ) → map (λ (k : ℕ). f (case values k)) ks ≡ replicate (length ks) v → (r : E) {a : Fact A} → OneOf ks (tag r) → says r ≡ a → v ≡ f a
 arm {values} cases f v ks e r o h = keys (λ (k : ℕ). f (case values k)) v ks e o ∙ ap f (sym (cases .said r) ∙ h)
 
 abbrev pub sources : List (Option Source)

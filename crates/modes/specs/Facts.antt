@@ -1,4 +1,4 @@
--- The values of the mode facts, in the Rust's names, and what a call about a mode answers. Definitions only.
+-- The values of the mode facts, in the Rust's names, and what a call about a mode answers: a fact. Definitions only.
 use Prim.Native.Nat.{ℕ}
 use mathlib.Core.Bool.{Bool, true, false}
 
@@ -31,6 +31,6 @@ isWave phase = false
 isWave wave = true
 
 -- the fact, or the number of the refusal and nothing else
-pub data Answer (A : Type 0) : Type 0 where
-  given : A → Answer A
-  refused : ℕ → Answer A
+pub data Fact (A : Type 0) : Type 0 where
+  given : A → Fact A
+  refused : ℕ → Fact A

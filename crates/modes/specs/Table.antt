@@ -5,7 +5,7 @@ use mathlib.Core.Option.{Option, some, none}
 use mathlib.Core.List.{List, [], _∷_, map}
 use lib.ListN.{getD}
 use Rattle.modes.specs.Mode.{Mode, Off, Sync, PinchIn, PinchOut, Pinch, PulseWidth, LeanRight, LeanLeft, Lean, Flip, Mirror, RemapDrawn, RemapMirrored, RemapSine, RemapQuad, Quantise, OddEven, LowPass, HighPass, Valve, SoftClip, HardClip, Diode1, Diode2, Fold, SineFold, ZeroSquare, Asymmetric, Rectify, SineShaper, Pedal, Tape, SoftSaturate, Fm1, Fm2, FmNoise, FmSub, FmFilter1, FmFilter2, FmExp1, FmExp2, FmExpNoise, FmExpSub, FmExpFilter1, FmExpFilter2, FmLin1, FmLin2, FmLinNoise, FmLinSub, FmLinFilter1, FmLinFilter2, Pd1, Pd2, PdNoise, PdSub, PdFilter1, PdFilter2, PdSelf, Am1, Am2, AmNoise, AmSub, AmFilter1, AmFilter2, Rm1, Rm2, RmNoise, RmSub, RmFilter1, RmFilter2}
-use Rattle.modes.specs.Facts.{Source, FmType, Modulated, Stage, osc1, osc2, noise, sub, filter1, filter2, own, thruZero, exponential, linear, fm, phaseDistortion, am, ring, off, phase, wave, Answer, given, refused}
+use Rattle.modes.specs.Facts.{Source, FmType, Modulated, Stage, osc1, osc2, noise, sub, filter1, filter2, own, thruZero, exponential, linear, fm, phaseDistortion, am, ring, off, phase, wave, Fact, given, refused}
 
 pub record Row : Type 0 where
   pub mode : Mode
@@ -95,29 +95,29 @@ modes =
     []
 
 -- the fact of the mode with this number; above 69 the refusal, number 1
-abbrev pub factOf : {A : Type 0} → (Row → A) → ℕ → Answer A
+abbrev pub factOf : {A : Type 0} → (Row → A) → ℕ → Fact A
 factOf f m = getD (map (λ (r : Row). given (f r)) modes) m (refused 1)
 
-unfoldable pub sourceOf : ℕ → Answer (Option Source)
+unfoldable pub sourceOf : ℕ → Fact (Option Source)
 unfolding modes
 sourceOf = factOf (λ (r : Row). r .source)
 
-unfoldable pub fmTypeOf : ℕ → Answer (Option FmType)
+unfoldable pub fmTypeOf : ℕ → Fact (Option FmType)
 unfolding modes
 fmTypeOf = factOf (λ (r : Row). r .fmType)
 
-unfoldable pub modulatedOf : ℕ → Answer (Option Modulated)
+unfoldable pub modulatedOf : ℕ → Fact (Option Modulated)
 unfolding modes
 modulatedOf = factOf (λ (r : Row). r .modulated)
 
-unfoldable pub stageOf : ℕ → Answer Stage
+unfoldable pub stageOf : ℕ → Fact Stage
 unfolding modes
 stageOf = factOf (λ (r : Row). r .stage)
 
-unfoldable pub oversampledOf : ℕ → Answer Bool
+unfoldable pub oversampledOf : ℕ → Fact Bool
 unfolding modes
 oversampledOf = factOf (λ (r : Row). r .oversampled)
 
-unfoldable pub distortionOf : ℕ → Answer Bool
+unfoldable pub distortionOf : ℕ → Fact Bool
 unfolding modes
 distortionOf = factOf (λ (r : Row). r .distortion)

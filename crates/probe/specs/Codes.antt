@@ -2,9 +2,9 @@
 use Prim.Native.Nat.{ℕ, _+_}
 use mathlib.Core.Bool.{Bool, true, false}
 use mathlib.Core.Option.{Option, some, none}
-use Rattle.modes.specs.Facts.{Source, FmType, Modulated, Stage, osc1, osc2, noise, sub, filter1, filter2, own, thruZero, exponential, linear, fm, phaseDistortion, am, ring, off, phase, wave, Answer, given, refused}
+use Rattle.modes.specs.Facts.{Source, FmType, Modulated, Stage, osc1, osc2, noise, sub, filter1, filter2, own, thruZero, exponential, linear, fm, phaseDistortion, am, ring, off, phase, wave, Fact, given, refused}
 
-abbrev pub codeOf : {A : Type 0} → (A → ℕ) → Answer A → ℕ
+abbrev pub codeOf : {A : Type 0} → (A → ℕ) → Fact A → ℕ
 codeOf code (given x) = code x
 codeOf code (refused n) = 256 + n
 

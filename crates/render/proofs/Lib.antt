@@ -1,6 +1,5 @@
--- The laws of a lane's share.
+-- The laws of a lane's rendered frames.
 pub mod InputLaws
 pub mod VoiceLaws
 pub mod FrameLaws
-pub mod ShareLaws
 pub mod PlainLaws

@@ -26,8 +26,7 @@ use Rattle.shaper.specs.Lane.{readsAt, shapedAt}
 use Rattle.render.specs.declared.cells.BlockSettings.{BlockSettings}
 use Rattle.render.specs.declared.cells.Voice.{Voice}
 use Rattle.render.specs.declared.cells.Stepped.{Stepped}
-use Rattle.render.specs.Lane.{Lent, Inputs, inputsOf, stepAt, voiceAfter, sampleAt}
-use Rattle.render.specs.Share.{firstFrame, frameCount}
+use Rattle.render.specs.Lane.{Lent, Inputs, inputsOf, stepAt, voiceAfter, sampleAt, firstFrame, frameCount}
 use Rattle.render.specs.Promises.{Limits, Readable}
 use Rattle.render.specs.Frames.{Cut, Frames}
 use Rattle.render.specs.Plain.{isPlain, cycleRead, Unshaped}

@@ -12,6 +12,7 @@ use Rattle.voice.specs.declared.phase_run.Reads.{Reads}
 use Rattle.voice.specs.declared.wave_run.Shaped.{Shaped}
 use Rattle.controls.specs.Controls.{Controls, ControlBuffers, controlsOf}
 use Rattle.shaper.specs.declared.settings.Settings.{Settings}
+use Rattle.shaper.specs.declared.settings.Range.{Range}
 use Rattle.shaper.specs.Lane.{readsAt, shapedAt, pair0, pair1}
 use Rattle.render.specs.declared.cells.BlockSettings.{BlockSettings}
 use Rattle.render.specs.declared.cells.Voice.{Voice}
@@ -71,3 +72,10 @@ voiceAfter b i q v (suc k) = stepAt b i (q + k) (voiceAfter b i q v k) .voice
 -- and the sample of rendered frame q + k
 unfoldable pub sampleAt : BlockSettings → Inputs → ℕ → Voice → ℕ → Float
 sampleAt b i q v k = stepAt b i (q + k) (voiceAfter b i q v k) .sample
+
+-- the range's rendered frames in the block
+abbrev pub firstFrame : BlockSettings → Range → ℕ
+firstFrame b r = r .first * b .shaper .factor
+
+abbrev pub frameCount : BlockSettings → Range → ℕ
+frameCount b r = r .count * b .shaper .factor

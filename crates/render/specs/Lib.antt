@@ -1,5 +1,4 @@
 pub mod Lane
-pub mod Share
 pub mod Promises
 pub mod Frames
 pub mod Plain

@@ -13,8 +13,7 @@ ghost use Prim.Native.Nat.{_<_, _≤_};
 ghost use lib.ListN.{length};
 ghost use Rattle.floats.specs.Exp2.{entries};
 ghost use Rattle.limits.specs.Lengths.{renderedLength};
-ghost use Rattle.render.specs.Lane.{inputsOf};
-ghost use Rattle.render.specs.Share.{firstFrame, frameCount};
+ghost use Rattle.render.specs.Lane.{inputsOf, firstFrame, frameCount};
 ghost use Rattle.render.specs.Promises.{lent, Limits, Readable};
 ghost use Rattle.render.specs.Frames.{Stills, Cut, Frames};
 

@@ -1,5 +1,5 @@
 // The shaper's calls about a single lane at a single rendered frame, over lent buffers: `reads_lane`
-// and `shape_at_lane` of mod.rs. `prepare` and `stretch` stand beside them.
+// and `shape_at_lane` of mod.rs.
 pub mod cells;
 pub mod lane;
 pub mod refusal;
@@ -17,5 +17,3 @@ pub use settings::Settings;
 pub use single::ReadsAnswer;
 pub use single::reads_lane;
 pub use single::shape_at_lane;
-pub use spans::prepare;
-pub use spans::stretch;

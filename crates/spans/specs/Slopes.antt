@@ -10,7 +10,7 @@ use Rattle.floats.specs.Steps.{_>>=_, if_then_else_}
 use Rattle.floats.specs.Sign.{absOf}
 use Rattle.lanes.specs.Lane.{minOf, maxOf}
 use Rattle.lanes.specs.Word.{two32}
-use Rattle.modes.specs.Facts.{Answer, given, refused, thruZero, exponential, linear, Modulated, fm, phaseDistortion, am, ring}
+use Rattle.modes.specs.Facts.{Fact, given, refused, thruZero, exponential, linear, Modulated, fm, phaseDistortion, am, ring}
 use Rattle.modes.specs.Table.{modulatedOf, distortionOf}
 use Rattle.slope.specs.Slope.{stretchOf}
 use Rattle.voice.specs.PhaseRun.{whole, inPhase, fmExponential}
@@ -78,7 +78,7 @@ unfoldable pub pdSlope : Float → Float → ℕ → Float
 pdSlope a step factor = a ⊗ half ⊗ (step ⊘ whole factor) ⊗ two32
 
 -- += match modulated; AM and Ring move the value and not the read
-abbrev pub addedBy : Float → Swing → ℕ → Float → Float → Answer (Option Modulated) → Float
+abbrev pub addedBy : Float → Swing → ℕ → Float → Float → Fact (Option Modulated) → Float
 addedBy a w factor perHertz add (given (some (fm thruZero))) = add ⊕ fmSlope a (w .peak) perHertz
 addedBy a w factor perHertz add (given (some (fm exponential))) = add ⊕ fmSlope a (fmExponential (w .peak)) perHertz
 addedBy a w factor perHertz add (given (some (fm linear))) = add ⊕ fmSlope a (w .peak) perHertz
@@ -111,7 +111,7 @@ slotSpan second mode factor perHertz curve base modulation source from k span =
 
 -- ---- both slots
 
-abbrev pub saysYes : Answer Bool → Bool
+abbrev pub saysYes : Fact Bool → Bool
 saysYes (given flag) = flag
 saysYes (refused n) = false
 

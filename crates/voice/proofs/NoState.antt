@@ -29,12 +29,3 @@ no-state sk slot control increment x state h =
     ap (λ (setting : Setting). shapeOf sk (slot .mode) setting increment x state)
     (by-tests (inWave (slot .mode)) (isFilter (slot .mode)) (isModulated (slot .mode)) (control .sourced)
     (filterSetting (slot .mode) (control .amount) (slot .character)) (Setting.Level (control .amount) (control .source)) (curveSetting (slot .mode) (control .amount)) h)
-
--- ---- neither of two
-pub neither-first : (a b : Bool) → (a || b) ≡ false → a ≡ false
-neither-first true b e = e
-neither-first false b e = refl
-
-pub neither-second : (a b : Bool) → (a || b) ≡ false → b ≡ false
-neither-second true b e = absurd (true≢false e)
-neither-second false b e = e

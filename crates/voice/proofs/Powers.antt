@@ -4,7 +4,7 @@ use mathlib.Core.Bool.{true, false}
 use mathlib.Core.Path.{_≡_, refl, sym}
 use lib.Ieee.{Float}
 use Rattle.floats.specs.Steps.{taken, left}
-use Rattle.modes.specs.Facts.{Answer, given, refused, Stage, off, phase, wave}
+use Rattle.modes.specs.Facts.{Fact, given, refused, Stage, off, phase, wave}
 use Rattle.modes.specs.Table.{stageOf}
 use Rattle.phase.specs.Power.{mapPower}
 use Rattle.wave.specs.Slot.{saysWave, inWave, wavePower}
@@ -12,7 +12,7 @@ use Rattle.voice.specs.PhaseRun.{saysPhase, inPhase}
 use Rattle.voice.specs.Power.{powerOf}
 
 -- a slot in the phase stage is not in the wave stage
-one-stage : (s : Answer Stage) → saysPhase s ≡ true → saysWave s ≡ false
+one-stage : (s : Fact Stage) → saysPhase s ≡ true → saysWave s ≡ false
 one-stage (given off) e = refl
 one-stage (given phase) e = refl
 one-stage (given wave) e = sym e

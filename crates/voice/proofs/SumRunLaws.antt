@@ -17,7 +17,7 @@ use Rattle.voice.specs.declared.phase_run.Offset.{Offset}
 use Rattle.voice.specs.declared.phase_run.Moved.{Moved}
 use Rattle.voice.specs.declared.sum_run.Slide.{Slide}
 use Rattle.voice.specs.declared.sum_run.Summed.{Summed}
-use Rattle.voice.specs.PhaseRun.{whole, inPhase, offsetOf, movedOf, mapSlot, listOf, readsOf}
+use Rattle.voice.specs.PhaseRun.{inPhase, offsetOf, movedOf, mapSlot, halfWidth, listOf, readsOf}
 use Rattle.voice.specs.SumRun.{slideOf, summedOf}
 
 -- ---- two shifts are one, by the sum of the offsets
@@ -87,7 +87,7 @@ summed cycle sk ak curve slot0 slot1 control0 control1 h0 h1 word s0 s1 =
     }
 
 pub list-summed : (cycle sk ak curve : List Float) (slot0 slot1 : Slot) (factor : ℕ) (scale : Float) (control0 control1 : Control) (inner : Float) (word : ℕ) (increment fm0 fm1 : Float)
-    → summed cycle sk ak curve slot0 slot1 control0 control1 (increment ⊗ (2f ⊗ half ⊗ whole factor) ⊗ inner) (increment ⊗ (2f ⊗ half ⊗ whole factor)) word
+    → summed cycle sk ak curve slot0 slot1 control0 control1 (halfWidth increment factor ⊗ inner) (halfWidth increment factor) word
     (slideOf (slot0 .mode) control0 scale increment fm0) (slideOf (slot1 .mode) control1 scale increment fm1)
     ≡ summedOf cycle (listOf sk ak curve slot0 slot1 factor scale control0 control1 inner word increment fm0 fm1)
 unfolding summedOf listOf movedOf slideOf mapSlot applyIf _>>=_

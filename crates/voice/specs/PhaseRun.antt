@@ -12,7 +12,7 @@ use Rattle.floats.specs.Floor.{floorOf}
 use Rattle.floats.specs.Exp2.{exp2Of}
 use Rattle.lanes.specs.Lane.{maxOf}
 use Rattle.lanes.specs.Word.{signedOf, toWord}
-use Rattle.modes.specs.Facts.{Answer, given, refused, Source, osc1, osc2, noise, sub, filter1, filter2, own, Stage, isPhase, FmType, thruZero, exponential, linear, Modulated, fm, phaseDistortion, am, ring}
+use Rattle.modes.specs.Facts.{Fact, given, refused, Source, osc1, osc2, noise, sub, filter1, filter2, own, Stage, isPhase, FmType, thruZero, exponential, linear, Modulated, fm, phaseDistortion, am, ring}
 use Rattle.modes.specs.Table.{sourceOf, stageOf, modulatedOf}
 use Rattle.reads.specs.declared.lists.ReadList.{ReadList}
 use Rattle.reads.specs.Reads.{oneRead, startOf, shiftOf, outgoingOf}
@@ -28,7 +28,7 @@ use Rattle.voice.specs.declared.phase_run.Reads.{Reads}
 abbrev pub whole : ℕ → Float
 whole n = Ieee.ofInt binary32 (pos n)
 
-abbrev pub saysPhase : Answer Stage → Bool
+abbrev pub saysPhase : Fact Stage → Bool
 saysPhase (given s) = isPhase s
 saysPhase (refused n) = false
 
@@ -36,7 +36,7 @@ saysPhase (refused n) = false
 unfoldable pub inPhase : ℕ → Bool
 inPhase mode = saysPhase (stageOf mode)
 
-abbrev pub saysOwn : Answer (Option Source) → Bool
+abbrev pub saysOwn : Fact (Option Source) → Bool
 saysOwn (given (some own)) = true
 saysOwn (given (some osc1)) = false
 saysOwn (given (some osc2)) = false
@@ -90,7 +90,7 @@ fmOffset linear a s scale increment carry = do
   carriedOn carry kept
 
 -- match modulated; PD_MAX_CYCLES is one half
-abbrev pub offsetBy : Float → Float → Float → Float → Float → Answer (Option Modulated) → Offset
+abbrev pub offsetBy : Float → Float → Float → Float → Float → Fact (Option Modulated) → Offset
 offsetBy a s scale increment carry (given (some (fm kind))) = fmOffset kind a s scale increment carry
 offsetBy a s scale increment carry (given (some phaseDistortion)) = record { word = toWord (a ⊗ half ⊗ s); carry = carry }
 offsetBy a s scale increment carry (given (some am)) = record { word = 0; carry = carry }
@@ -115,11 +115,15 @@ movedOf mode control scale increment list carry =
 unfoldable pub mapSlot : List Float → List Float → List Float → Slot → Control → Float → ReadList → ReadList
 mapSlot sk ak curve slot control h list = if inPhase (slot .mode) then applyOf sk ak curve slot (control .amount) h list else list
 
--- `reads_of`: slot 1's map, slot 0's with half width times `inner`, slot 1's offset, slot 0's.
--- TRANSITION is 2
+-- increment * (TRANSITION * 0.5 * factor as f32): half the width of an edge. TRANSITION, 2, is in host samples, the increment is for a
+-- rendered one
+unfoldable pub halfWidth : Float → ℕ → Float
+halfWidth increment factor = increment ⊗ (2f ⊗ half ⊗ whole factor)
+
+-- `reads_of`: slot 1's map, slot 0's with half width times `inner`, slot 1's offset, slot 0's
 unfoldable pub listOf : List Float → List Float → List Float → Slot → Slot → ℕ → Float → Control → Control → Float → ℕ → Float → Float → Float → Reads
 listOf sk ak curve slot0 slot1 factor scale control0 control1 inner word increment fm0 fm1 = do
-  h ← increment ⊗ (2f ⊗ half ⊗ whole factor)
+  h ← halfWidth increment factor
   start ← startOf word
   list1 ← mapSlot sk ak curve slot1 control1 h start
   list0 ← mapSlot sk ak curve slot0 control0 (h ⊗ inner) list1

@@ -20,7 +20,7 @@ ghost use lib.ListN.{length};
 ghost use Rattle.floats.specs.Exp2.{entries};
 ghost use Rattle.modes.specs.Facts.{thruZero, exponential, linear};
 ghost use Rattle.voice.specs.Power.{powerOf};
-ghost use Rattle.voice.specs.PhaseRun.{inPhase, isOwn, fmExponential, fmScale, fmCycles, carriedOn, fmOffset, offsetOf, movedOf, mapSlot, listOf, readsOf};
+ghost use Rattle.voice.specs.PhaseRun.{inPhase, isOwn, fmExponential, fmScale, fmCycles, carriedOn, fmOffset, offsetOf, movedOf, mapSlot, halfWidth, listOf, readsOf};
 
 // FM's scale: the deviation at amount 1 and source 1.
 pub const FM_MAX_HZ: f32 = 83_750.0;
@@ -29,7 +29,7 @@ pub const FM_MAX_HZ: f32 = 83_750.0;
 pub const PD_MAX_CYCLES: f32 = 0.5;
 
 // The width of an edge, in host samples.
-pub const TRANSITION: f32 = 2.0;
+const TRANSITION: f32 = 2.0;
 
 // The words that a slot adds to the read, and its FM carry after it.
 pub struct Offset {
@@ -198,6 +198,13 @@ fn map_slot(
     list
 }
 
+// Half the width of an edge. TRANSITION is in host samples; the increment is for a rendered one.
+pub fn half_width(increment: f32, factor: u32) -> f32
+    ensures { λ r. ⌜ r ≡ halfWidth increment factor ⌝ }
+{
+    increment * (TRANSITION * 0.5 * nearest_u32(factor))
+}
+
 // Slot 1's map, then slot 0's with half width times `inner`, then the offsets in the same order.
 fn list_of(
     powers: &[u32; 257],
@@ -222,8 +229,7 @@ fn list_of(
     ensures { λ r. ⌜ r ≡ listOf (numbers .sin) (numbers .atan) (now (curve .entry)) slot0 slot1 factor scale control0 control1 inner word increment fm0 fm1 ⌝ }
     ensures { λ r. ⌜ r .reads .count ≤ 4 ⌝ }
 {
-    // TRANSITION is in host samples; the increment is for a rendered one.
-    let half = increment * (TRANSITION * 0.5 * nearest_u32(factor));
+    let half = half_width(increment, factor);
     let start = ReadList::start(word);
     let list1 = map_slot(numbers, curve, slot1, control1, power1, half, start);
     let list0 = map_slot(numbers, curve, slot0, control0, power0, half * inner, list1);

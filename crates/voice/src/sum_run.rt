@@ -1,9 +1,8 @@
 // The phase stage for a run that asks for nothing but the sum of its reads: no list is made.
 use crate::control::Control;
-use crate::phase_run::TRANSITION;
+use crate::phase_run::half_width;
 use crate::phase_run::in_phase;
 use crate::phase_run::offset_of;
-use floats::nearest_u32;
 use lanes::Numbers;
 use lanes::add_words;
 use lanes::signed;
@@ -87,8 +86,7 @@ fn sum_list(
     requires { ⌜ power0 ≡ powerOf (slot0 .mode) (control0 .amount) ⌝ ∗ ⌜ power1 ≡ powerOf (slot1 .mode) (control1 .amount) ⌝ }
     ensures { λ r. ⌜ r ≡ summedOf (now (cycle .entry)) (listOf (numbers .sin) (numbers .atan) (now (curve .entry)) slot0 slot1 factor scale control0 control1 inner word increment fm0 fm1) ⌝ }
 {
-    // As in `list_of`.
-    let half = increment * (TRANSITION * 0.5 * nearest_u32(factor));
+    let half = half_width(increment, factor);
     let slide1 = slide_of(powers, slot1.mode, control1, scale, increment, fm1);
     let slide0 = slide_of(powers, slot0.mode, control0, scale, increment, fm0);
     let x = mapped_sum(

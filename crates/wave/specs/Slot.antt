@@ -9,7 +9,7 @@ use Rattle.floats.specs.F32.{_⊕_, _⊖_, _⊗_, 1f, half}
 use Rattle.floats.specs.Steps.{_>>=_, if_then_else_}
 use Rattle.modes.specs.Mode.{numberOf, LowPass, HighPass}
 use Rattle.modes.specs.Choice.{Case, _⇒_, caseOf}
-use Rattle.modes.specs.Facts.{Answer, given, refused, Stage, isWave, Modulated, fm, phaseDistortion, am, ring}
+use Rattle.modes.specs.Facts.{Fact, given, refused, Stage, isWave, Modulated, fm, phaseDistortion, am, ring}
 use Rattle.modes.specs.Table.{stageOf, modulatedOf}
 use Rattle.wave.specs.declared.filters.Svf.{Svf}
 use Rattle.wave.specs.declared.filters.Filtered.{Filtered}
@@ -17,11 +17,11 @@ use Rattle.wave.specs.declared.slots.Setting.{Setting}
 use Rattle.wave.specs.Filter.{cutoffHarmonic, dampingOf, filterOf}
 use Rattle.wave.specs.Smooth.{gainOf, smoothOf}
 
-abbrev pub saysWave : Answer Stage → Bool
+abbrev pub saysWave : Fact Stage → Bool
 saysWave (given s) = isWave s
 saysWave (refused n) = false
 
-abbrev pub saysModulated : Answer (Option Modulated) → Bool
+abbrev pub saysModulated : Fact (Option Modulated) → Bool
 saysModulated (given (some m)) = true
 saysModulated (given none) = false
 saysModulated (refused n) = false
@@ -79,7 +79,7 @@ unfoldable pub ringOf : Float → Float → Float → Float
 ringOf a s x = x ⊗ (1f ⊖ a ⊕ a ⊗ s)
 
 -- match mode.modulated()
-abbrev pub levelBy : Float → Float → Float → Answer (Option Modulated) → Float
+abbrev pub levelBy : Float → Float → Float → Fact (Option Modulated) → Float
 levelBy a s x (given (some am)) = amOf a s x
 levelBy a s x (given (some ring)) = ringOf a s x
 levelBy a s x (given (some (fm t))) = x

@@ -2,8 +2,8 @@
 use mathlib.Core.Path.{_≡_, sym, _∙_}
 use borrow.Author.Needs.{needs}
 use Rattle.render.specs.Lane.{Lent}
-use Rattle.render.specs.Share.{Buffers}
-use Rattle.render.specs.Promises.{lent, buffers}
+use Rattle.share.specs.Share.{Buffers, buffers}
+use Rattle.render.specs.Promises.{lent}
 use Rattle.block.specs.Refusal.{blockRefusal}
 use Rattle.block.specs.Call.{readLengths, writeLengths}
 use Rattle.block.proofs.RefusalLaws.{accepted}

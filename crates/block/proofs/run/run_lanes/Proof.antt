@@ -3,8 +3,9 @@ use Prim.Native.Nat.{ℕ, _≤_, _<_, _-_}
 use mathlib.Core.Path.{_≡_, subst}
 use native.Mathlib.Omega.{arith}
 use Rattle.render.specs.Lane.{Lent}
-use Rattle.render.specs.Share.{Buffers}
-use Rattle.render.specs.Promises.{lent, buffers, Shared}
+use Rattle.share.specs.Share.{Buffers, buffers}
+use Rattle.render.specs.Promises.{lent}
+use Rattle.share.specs.Promises.{Shared}
 use Rattle.block.proofs.SharedLaws.{shared-none, shared-more, writable-kept}
 use Rattle.block.proofs.run.run_lanes.Statement.{statement}
 use Rattle.block.proofs.run.run_lanes.Tie as tie

@@ -4,8 +4,8 @@ use borrow.Author.Needs.{needs}
 use lib.ListN.{length}
 use Rattle.render.specs.declared.cells.BlockSettings.{BlockSettings}
 use Rattle.render.specs.Lane.{Lent}
-use Rattle.render.specs.Share.{Buffers}
-use Rattle.render.specs.Promises.{lent, buffers}
+use Rattle.share.specs.Share.{Buffers, buffers}
+use Rattle.render.specs.Promises.{lent}
 use Rattle.block.specs.Refusal.{blockRefusal}
 use Rattle.block.specs.Call.{readLengths, writeLengths}
 use Rattle.block.specs.Numbers.{settingsOf, rangeOf}

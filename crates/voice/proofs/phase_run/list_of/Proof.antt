@@ -1,7 +1,7 @@
 -- `voice::list_of` meets its contract: its steps are the definition's, and every list on the way has at most four reads. Assumes nothing.
 use borrow.Author.Needs.{needs}
 use mathlib.Core.Path.{ap}
-use Rattle.floats.specs.Steps.{given, step}
+use Rattle.floats.specs.Steps.{given}
 use Rattle.reads.proofs.Few.{Few, start-few, outgoing-few}
 use Rattle.voice.specs.PhaseRun.{listOf}
 use Rattle.voice.proofs.Counts.{as-ensured, mapped-few, moved-few}
@@ -38,7 +38,7 @@ move-on-requires-2 c κs = let h = moved1 c in search needs
 returns : tie.Need-returns
 unfolding listOf
 returns c = (
-  rw (← c .before .before .before .before .before .before .nearest-u32 .ensures, step, given (c .before .before .before .before .before .start .ensures), given (c .before .before .before .before .map-slot .ensures), given (c .before .before .before .map-slot2 .ensures), given (c .before .before .move-on .ensures), given (c .before .move-on2 .ensures), given (c .outgoing .ensures)),
+  rw (given (c .before .before .before .before .before .before .half-width .ensures), given (c .before .before .before .before .before .start .ensures), given (c .before .before .before .before .map-slot .ensures), given (c .before .before .before .map-slot2 .ensures), given (c .before .before .move-on .ensures), given (c .before .move-on2 .ensures), given (c .outgoing .ensures)),
   rw (c .outgoing .ensures) (outgoing-few _ (moved0 (c .before))),
 )
 

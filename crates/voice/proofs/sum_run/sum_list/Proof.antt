@@ -20,7 +20,7 @@ returns c =
       c .before .add-words .ensures,
       c .before .before .before .before .slide-of2 .ensures,
       c .before .before .before .before .before .slide-of .ensures,
-      c .before .before .before .before .before .before .nearest-u32 .ensures,
+      c .before .before .before .before .before .before .half-width .ensures,
       p .1 .1 .1 .0,
       p .1 .1 .1 .1 .0,
     ) (list-summed _ _ _ _ _ _ _ _ _ _ _ _ _ _ _)

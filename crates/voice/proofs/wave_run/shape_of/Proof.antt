@@ -5,7 +5,7 @@ use mathlib.Core.Logic.{⊎-elim}
 use Rattle.floats.specs.Steps.{_>>=_, if_then_else_, taken, left}
 use Rattle.lanes.specs.Word.{signedOf}
 use Rattle.voice.specs.WaveRun.{tracks, shapedOf}
-use Rattle.voice.proofs.NoState.{neither-first, neither-second}
+use Rattle.limits.proofs.LineLaws.{or-false}
 use Rattle.voice.proofs.wave_run.shape_of.Statement.{statement}
 use Rattle.voice.proofs.wave_run.shape_of.Tie as tie
 
@@ -17,10 +17,10 @@ kept c =
     (c .if2 .came)
 
 level-of-requires : tie.Need-level-of-requires
-level-of-requires c κs = sym (c .before .before .before .before .has-state .ensures) ∙ neither-first _ _ (c .before .before .if1 .left)
+level-of-requires c κs = sym (c .before .before .before .before .has-state .ensures) ∙ or-false _ _ (c .before .before .if1 .left) .0
 
 level-of2-requires : tie.Need-level-of-requires-2
-level-of2-requires c κs = sym (c .before .before .before .before .has-state2 .ensures) ∙ neither-second (c .before .before .before .before .before .has-state .result) _ (c .before .before .before .if1 .left)
+level-of2-requires c κs = sym (c .before .before .before .before .has-state2 .ensures) ∙ or-false (c .before .before .before .before .before .has-state .result) _ (c .before .before .before .if1 .left) .1
 
 returns-2 : tie.Need-returns-2
 unfolding shapedOf _>>=_

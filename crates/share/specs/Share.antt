@@ -1,6 +1,6 @@
 -- One lane's whole share of a range of a block: its samples into the work rows, their decimation in place, the copy to the range's output
 -- rows, and its state after it. Definitions only.
-use Prim.Native.Nat.{ℕ, _*_}
+use Prim.Native.Nat.{ℕ}
 use mathlib.Core.List.{List}
 use lib.Ieee.{Float, nan}
 use Rattle.grid.specs.Functions.{upd, upto, span}
@@ -10,9 +10,9 @@ use Rattle.halfband.specs.Floats.{floats, designOf}
 use Rattle.halfband.specs.Refusal.{stagesOf}
 use Rattle.shaper.specs.declared.settings.Range.{Range}
 use Rattle.shaper.specs.Lane.{putPairs, putCarry}
 use Rattle.render.specs.declared.cells.BlockSettings.{BlockSettings}
 use Rattle.render.specs.declared.cells.Voice.{Voice}
-use Rattle.render.specs.Lane.{Inputs, voiceOf, voiceAfter, sampleAt}
+use Rattle.render.specs.Lane.{Inputs, voiceOf, voiceAfter, sampleAt, firstFrame, frameCount}
 
 -- the six buffers that a block run writes
 pub record Buffers : Type 0 where
@@ -22,6 +22,9 @@ pub record Buffers : Type 0 where
   pub fm : List Float
   pub last : List Float
   pub dec : List Float
+
+abbrev pub buffers : List Float → List Float → List Float → List Float → List Float → List Float → Buffers
+buffers output work pairs fm last dec = record { output = output; work = work; pairs = pairs; fm = fm; last = last; dec = dec }
 
 -- a lane's columns of them; its decimator cells in blocks of 24
 pub record Columns : Type 0 where
@@ -46,13 +49,6 @@ columnsOf n b lane =
 -- the lane's state as it enters
 abbrev pub enters : Columns → Voice
 enters v = voiceOf (v .pairs) (v .fm) (v .last)
-
--- the range's rendered frames in the block
-abbrev pub firstFrame : BlockSettings → Range → ℕ
-firstFrame b r = r .first * b .shaper .factor
-
-abbrev pub frameCount : BlockSettings → Range → ℕ
-frameCount b r = r .count * b .shaper .factor
 
 -- the samples in the work rows, and the state after them
 unfoldable pub rendered : BlockSettings → Range → Inputs → Columns → Columns

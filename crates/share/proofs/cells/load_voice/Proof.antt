@@ -3,8 +3,8 @@ use denote.Ref.{now}
 use lib.Ieee.{nan}
 use borrow.Author.Needs.{needs}
 use Rattle.grid.proofs.CellLaws.{col-at}
-use Rattle.render.proofs.cells.load_voice.Statement.{statement}
-use Rattle.render.proofs.cells.load_voice.Tie as tie
+use Rattle.share.proofs.cells.load_voice.Statement.{statement}
+use Rattle.share.proofs.cells.load_voice.Tie as tie
 
 returns : tie.Need-returns
 returns c =

@@ -5,9 +5,9 @@ use native.Mathlib.Omega.{arith}
 use denote.Ref.{now}
 use lib.ListN.{length, length-set}
 use borrow.Author.Needs.{needs}
-use Rattle.render.proofs.ShareLaws.{Copies, copies-none, copies-more, from-in, from-near, to-in, to-near}
-use Rattle.render.proofs.lane.copy_lane.Statement.{statement}
-use Rattle.render.proofs.lane.copy_lane.Tie as tie
+use Rattle.share.proofs.ShareLaws.{Copies, copies-none, copies-more, from-in, from-near, to-in, to-near}
+use Rattle.share.proofs.lane.copy_lane.Statement.{statement}
+use Rattle.share.proofs.lane.copy_lane.Tie as tie
 
 abbrev Inv-loop : tie.InvT-loop
 Inv-loop first count n lane work output₀ k₀ output k =

@@ -2,12 +2,12 @@
 use mathlib.Core.Path.{_∙_}
 use denote.Ref.{now}
 use borrow.Author.Needs.{needs}
 use Rattle.render.specs.Lane.{Lent}
-use Rattle.render.specs.Share.{Buffers}
-use Rattle.render.specs.Promises.{lent, buffers}
-use Rattle.render.proofs.ShareLaws.{cut-tables, cut-readable, voice-held, stages-taken, rows-copied, shared}
-use Rattle.render.proofs.lane.run_lane.Statement.{statement}
-use Rattle.render.proofs.lane.run_lane.Tie as tie
+use Rattle.render.specs.Promises.{lent}
+use Rattle.share.specs.Share.{Buffers, buffers}
+use Rattle.share.proofs.ShareLaws.{cut-tables, cut-readable, voice-held, stages-taken, rows-copied, shared}
+use Rattle.share.proofs.lane.run_lane.Statement.{statement}
+use Rattle.share.proofs.lane.run_lane.Tie as tie
 
 abbrev lends : tie.Start → Lent
 lends c =

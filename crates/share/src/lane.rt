@@ -1,13 +1,13 @@
 // One lane's whole share of a range.
-use crate::cells::BlockSettings;
 use crate::cells::load_voice;
 use crate::cells::store_voice;
-use crate::frames::render_lane;
 use grid::place;
 use halfband::decimate_lane;
 use halfband::stages_of;
 use limits::CURVE_LENGTH;
 use limits::CYCLE_LENGTH;
+use render::BlockSettings;
+use render::render_lane;
 use shaper::Range;
 ghost use mathlib.Core.Path.{_≡_};
 ghost use Prim.Native.Nat.{_+_, _<_};
@@ -17,7 +17,9 @@ ghost use Rattle.floats.specs.Exp2.{entries};
 ghost use Rattle.grid.specs.Functions.{span};
 ghost use Rattle.grid.specs.Cells.{col, columns};
 ghost use Rattle.grid.specs.Lanes.{Each};
-ghost use Rattle.render.specs.Promises.{lent, buffers, Limits, Readable, Writable, Copied, Shared};
+ghost use Rattle.render.specs.Promises.{lent, Limits, Readable};
+ghost use Rattle.share.specs.Share.{buffers};
+ghost use Rattle.share.specs.Promises.{Writable, Copied, Shared};
 
 // The lane's first `count` work rows to the output rows from `first` on.
 fn copy_lane(first: usize, count: usize, n: usize, lane: usize, work: &[f32], output: &mut [f32])

@@ -22,12 +22,13 @@ use Rattle.halfband.specs.Decimated.{lanePart}
 use Rattle.shaper.specs.declared.settings.Settings.{Settings}
 use Rattle.shaper.specs.declared.settings.Range.{Range}
 use Rattle.shaper.specs.Taken.{Held}
 use Rattle.render.specs.declared.cells.BlockSettings.{BlockSettings}
 use Rattle.render.specs.declared.cells.Voice.{Voice}
-use Rattle.render.specs.Lane.{Lent, inputsOf, voiceOf, voiceAfter, sampleAt}
-use Rattle.render.specs.Share.{Buffers, columnsOf, firstFrame, frameCount, rendered, decimated, copied, share}
-use Rattle.render.specs.Promises.{buffers, Limits, Readable, Writable, Copied, Stored, Sizes, Shared}
+use Rattle.render.specs.Lane.{Lent, inputsOf, voiceOf, voiceAfter, sampleAt, firstFrame, frameCount}
+use Rattle.render.specs.Promises.{Limits, Readable}
 use Rattle.render.specs.Frames.{Cut, Frames}
+use Rattle.share.specs.Share.{Buffers, buffers, columnsOf, rendered, decimated, copied, share}
+use Rattle.share.specs.Promises.{Writable, Copied, Stored, Sizes, Shared}
 
 -- ---- the copy
 

@@ -1,0 +1,2 @@
+-- The laws of a lane's share.
+pub mod ShareLaws
