@@ -4,7 +4,7 @@ use Prim.Native.Nat.{ℕ}
 use borrow.Author.Tests.{ne-eqb, eq-eqb}
 use Rattle.limits.specs.declared.answers.Answer.{Answer}
 use Rattle.shaper.specs.declared.settings.Range.{Range}
-use Rattle.render.specs.declared.cells.BlockSettings.{BlockSettings}
+use Rattle.render.specs.declared.state.BlockSettings.{BlockSettings}
 use Rattle.render.specs.Lane.{Lent}
 use Rattle.share.specs.Share.{Buffers}
 use Rattle.share.specs.Promises.{Shared}

@@ -5,14 +5,13 @@ use native.Mathlib.Nat.{zero-mul}
 use lib.Ieee.{Float}
 use Rattle.grid.specs.Functions.{upd, upto, span}
 use Rattle.grid.proofs.FunctionLaws.{upd-self, upto-none, span-none}
-use Rattle.halfband.specs.Halfband.{cascade}
+use Rattle.halfband.specs.Halfband.{cascade, stagesOf}
 use Rattle.halfband.specs.Floats.{floats, designOf}
-use Rattle.halfband.specs.Refusal.{stagesOf}
 use Rattle.halfband.proofs.RangeLaws.{cascade-still}
 use Rattle.shaper.specs.declared.settings.Range.{Range}
 use Rattle.shaper.specs.Lane.{pair0, pair1, putPairs, putCarry}
-use Rattle.render.specs.declared.cells.BlockSettings.{BlockSettings}
-use Rattle.render.specs.declared.cells.Voice.{Voice}
+use Rattle.render.specs.declared.state.BlockSettings.{BlockSettings}
+use Rattle.render.specs.declared.state.Voice.{Voice}
 use Rattle.render.specs.Lane.{Inputs, voiceAfter, sampleAt, firstFrame}
 use Rattle.share.specs.Share.{Columns, enters, rendered, decimated, copied, share}
 use Rattle.render.proofs.VoiceLaws.{voice-none}

@@ -11,7 +11,7 @@ use Rattle.grid.proofs.TableLaws.{length-table, getD-table}
 use Rattle.lanes.specs.declared.maths.Numbers.{Numbers}
 use Rattle.halfband.specs.Floats.{designsOf}
 use Rattle.shaper.specs.declared.settings.Range.{Range}
-use Rattle.render.specs.declared.cells.BlockSettings.{BlockSettings}
+use Rattle.render.specs.declared.state.BlockSettings.{BlockSettings}
 use Rattle.block.specs.declared.refusal.ReadLengths.{ReadLengths}
 use Rattle.block.specs.declared.refusal.WriteLengths.{WriteLengths}
 use Rattle.block.specs.Refusal.{blockRefusal}

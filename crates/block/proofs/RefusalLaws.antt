@@ -7,21 +7,21 @@ use native.Mathlib.Omega.{arith}
 use lib.ListN.{length}
 use Rattle.limits.specs.Lines.{firstOf, numberLines, badFactor, badLanes, badRate}
 use Rattle.limits.specs.Lengths.{hostLength, renderedLength, spanLength, curveLength, cycleLength, coefsLength, numbersLength, pairsLength, carryLength, lastLength, stateLength, shorter}
-use Rattle.limits.proofs.LineLaws.{thenLengths, whole-table, first-passed, or-false, small-factor, good-lanes, good-range, good-rate, good-counts}
+use Rattle.limits.proofs.LineLaws.{thenLengths, whole-table, no-line, or-false, small-factor, good-lanes, good-range, good-rate, good-counts}
 use Rattle.limits.proofs.LengthLaws.{long-enough, not-short, controls-held}
 use Rattle.halfband.specs.Floats.{designOf}
 use Rattle.halfband.proofs.RefusalLaws.{good-factor, three}
 use Rattle.shaper.specs.declared.settings.Settings.{Settings}
 use Rattle.shaper.specs.declared.settings.Range.{Range}
 use Rattle.shaper.specs.Refusal.{modeLine}
-use Rattle.render.specs.declared.cells.BlockSettings.{BlockSettings}
+use Rattle.render.specs.declared.state.BlockSettings.{BlockSettings}
 use Rattle.render.specs.Lane.{Lent}
 use Rattle.share.specs.Share.{Buffers}
 use Rattle.render.specs.Promises.{Limits, Readable}
 use Rattle.share.specs.Promises.{Writable}
 use Rattle.block.specs.declared.refusal.ReadLengths.{ReadLengths}
 use Rattle.block.specs.declared.refusal.WriteLengths.{WriteLengths}
-use Rattle.block.specs.Refusal.{rangeLine, countLine, lentShort, readsShort, writesShort, blockRefusal}
+use Rattle.block.specs.Refusal.{rangeLine, countLine, buffersShort, readsShort, writesShort, blockRefusal}
 use Rattle.block.specs.Call.{Call, readLengths, writeLengths, refusalOf}
 
 -- ---- the lines
@@ -38,25 +38,20 @@ pub record Passed (b : BlockSettings) (r : Range) (active : ℕ) (reads : ReadLe
 
 module _ (b : BlockSettings) (r : Range) (active : ℕ) (reads : ReadLengths) (writes : WriteLengths) where
   pub passed : blockRefusal b r active reads writes ≡ 0 → Passed b r active reads writes
-  unfolding blockRefusal
+  unfolding blockRefusal firstOf
   passed e =
-      let p1 = first-passed (modeLine (b .shaper)) 0 _ e in
-      let p2 = first-passed (badFactor (b .shaper .factor)) 1 _ (p1 .1) in
-      let p3 = first-passed (badLanes (b .shaper .lanes) active) 2 _ (p2 .1) in
-      let p4 = first-passed (rangeLine (b .shaper) r) 3 _ (p3 .1) in
-      let p5 = first-passed (badRate (b .rate)) 4 _ (p4 .1) in
-      let p6 = first-passed (countLine b) 5 _ (p5 .1) in
-      let p7 = first-passed (readsShort (b .shaper) reads) 6 _ (p6 .1) in
-      let p8 = first-passed (writesShort (b .shaper) r writes) 7 _ (p7 .1) in
+      let p =
+      no-line (modeLine (b .shaper)) (badFactor (b .shaper .factor)) (badLanes (b .shaper .lanes) active) (rangeLine (b .shaper) r) (badRate (b .rate)) (countLine b)
+      (readsShort (b .shaper) reads) (writesShort (b .shaper) r writes) e in
       record {
-        modes = p1 .0;
-        factors = p2 .0;
-        lanes = p3 .0;
-        ranges = p4 .0;
-        rates = p5 .0;
-        counts = p6 .0;
-        read = p7 .0;
-        written = p8 .0;
+        modes = p .numbers .modes;
+        factors = p .numbers .factor;
+        lanes = p .numbers .lanes;
+        ranges = p .numbers .frames;
+        rates = p .numbers .rate;
+        counts = p .numbers .counts;
+        read = p .read;
+        written = p .written;
       }
 
   pub table-is : blockRefusal b r active reads writes
@@ -86,8 +81,8 @@ module _ (s : Settings) (r : Range) (e : rangeLine s r ≡ false) where
 -- ---- line 7
 
 module _ (s : Settings) (coefs numbers : ℕ) (l : Lent) where
-  lent-held : lentShort s (readLengths coefs numbers l) ≡ false → Readable s l
-  lent-held e =
+  buffers-held : buffersShort s (readLengths coefs numbers l) ≡ false → Readable s l
+  buffers-held e =
       let rows : ℕ = renderedLength (s .frames) (s .factor) (s .lanes) in
       let x5 = or-false _ (shorter (spanLength (s .frames) (s .lanes)) (length (l .inner))) e in
       let x4 = or-false _ (shorter rows (length (l .steps))) (x5 .0) in
@@ -104,14 +99,14 @@ module _ (s : Settings) (coefs numbers : ℕ) (l : Lent) where
       }
 
   module _ (e : readsShort s (readLengths coefs numbers l) ≡ false) where
-    most : ((lentShort s (readLengths coefs numbers l) || shorter coefsLength coefs) ≡ false) × (shorter numbersLength numbers ≡ false)
-    most = or-false (lentShort s (readLengths coefs numbers l) || shorter coefsLength coefs) (shorter numbersLength numbers) e
+    most : ((buffersShort s (readLengths coefs numbers l) || shorter coefsLength coefs) ≡ false) × (shorter numbersLength numbers ≡ false)
+    most = or-false (buffersShort s (readLengths coefs numbers l) || shorter coefsLength coefs) (shorter numbersLength numbers) e
 
-    others : (lentShort s (readLengths coefs numbers l) ≡ false) × (shorter coefsLength coefs ≡ false)
-    others = or-false (lentShort s (readLengths coefs numbers l)) (shorter coefsLength coefs) (most .0)
+    others : (buffersShort s (readLengths coefs numbers l) ≡ false) × (shorter coefsLength coefs ≡ false)
+    others = or-false (buffersShort s (readLengths coefs numbers l)) (shorter coefsLength coefs) (most .0)
 
     pub readable : Readable s l
-    readable = lent-held (others .0)
+    readable = buffers-held (others .0)
 
     -- coefficients and numbers on slices that are long enough
     pub whole-slices : (coefsLength ≤ coefs) × (numbersLength ≤ numbers)

@@ -5,7 +5,7 @@ use native.Mathlib.Omega.{arith}
 use Rattle.grid.proofs.EachLaws.{each-none, each-join}
 use Rattle.shaper.specs.declared.settings.Settings.{Settings}
 use Rattle.shaper.specs.declared.settings.Range.{Range}
-use Rattle.render.specs.declared.cells.BlockSettings.{BlockSettings}
+use Rattle.render.specs.declared.state.BlockSettings.{BlockSettings}
 use Rattle.render.specs.Lane.{Lent}
 use Rattle.share.specs.Share.{Buffers}
 use Rattle.share.specs.Promises.{Writable, Sizes, Shared}

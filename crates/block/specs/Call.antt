@@ -8,7 +8,7 @@ use Rattle.grid.specs.Lanes.{Each}
 use Rattle.limits.specs.declared.answers.Answer.{Answer}
 use Rattle.controls.specs.Controls.{controlLengths}
 use Rattle.shaper.specs.declared.settings.Range.{Range}
-use Rattle.render.specs.declared.cells.BlockSettings.{BlockSettings}
+use Rattle.render.specs.declared.state.BlockSettings.{BlockSettings}
 use Rattle.render.specs.Lane.{Lent, Inputs, inputsOf}
 use Rattle.share.specs.Share.{Buffers, Columns, columnsOf, share}
 use Rattle.block.specs.declared.refusal.ReadLengths.{ReadLengths}

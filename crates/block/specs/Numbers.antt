@@ -6,7 +6,7 @@ use lib.Ieee.{Float}
 use Rattle.lanes.specs.declared.maths.Numbers.{Numbers}
 use Rattle.halfband.specs.Floats.{designsOf}
 use Rattle.shaper.specs.declared.settings.Range.{Range}
-use Rattle.render.specs.declared.cells.BlockSettings.{BlockSettings}
+use Rattle.render.specs.declared.state.BlockSettings.{BlockSettings}
 
 -- the sine's five numbers, then the arctangent's eight
 unfoldable pub numbersOf : List Float → Numbers

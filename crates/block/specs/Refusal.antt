@@ -8,7 +8,7 @@ use Rattle.halfband.specs.Floats.{designOf}
 use Rattle.shaper.specs.declared.settings.Settings.{Settings}
 use Rattle.shaper.specs.declared.settings.Range.{Range}
 use Rattle.shaper.specs.Refusal.{modeLine}
-use Rattle.render.specs.declared.cells.BlockSettings.{BlockSettings}
+use Rattle.render.specs.declared.state.BlockSettings.{BlockSettings}
 use Rattle.block.specs.declared.refusal.ReadLengths.{ReadLengths}
 use Rattle.block.specs.declared.refusal.WriteLengths.{WriteLengths}
 
@@ -21,15 +21,15 @@ abbrev pub countLine : BlockSettings → Bool
 countLine b = badCounts (designOf (b .designs) 0 .count) (designOf (b .designs) 1 .count) (designOf (b .designs) 2 .count)
 
 -- 7: base, modulation and sources; the curve and the cycle; phase words and steps; `inner`
-abbrev pub lentShort : Settings → ReadLengths → Bool
-lentShort s l =
+abbrev pub buffersShort : Settings → ReadLengths → Bool
+buffersShort s l =
     shortControls (s .frames) (s .lanes) (l .controls) || shorter curveLength (l .curve) || shorter cycleLength (l .cycle)
     || shorter (renderedLength (s .frames) (s .factor) (s .lanes)) (l .words) || shorter (renderedLength (s .frames) (s .factor) (s .lanes)) (l .steps)
     || shorter (spanLength (s .frames) (s .lanes)) (l .inner)
 
 -- and where they come on slices, coefficients and sine and arctangent numbers
 abbrev pub readsShort : Settings → ReadLengths → Bool
-readsShort s l = lentShort s l || shorter coefsLength (l .coefs) || shorter numbersLength (l .numbers)
+readsShort s l = buffersShort s l || shorter coefsLength (l .coefs) || shorter numbersLength (l .numbers)
 
 -- 8: output, work, filter pairs, FM carry, `last`, decimator state
 abbrev pub writesShort : Settings → Range → WriteLengths → Bool

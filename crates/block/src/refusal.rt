@@ -27,7 +27,7 @@ ghost use mathlib.Core.Path.{_≡_};
 ghost use Prim.Native.Nat.{_≤_};
 ghost use Rattle.limits.specs.Lines.{firstOf, numberLines, badFactor, badLanes, badRate};
 ghost use Rattle.shaper.specs.Refusal.{modeLine};
-ghost use Rattle.block.specs.Refusal.{rangeLine, countLine, lentShort, readsShort, writesShort, blockRefusal};
+ghost use Rattle.block.specs.Refusal.{rangeLine, countLine, buffersShort, readsShort, writesShort, blockRefusal};
 
 // The lengths of what it is lent to read. `coefs` and `numbers` are 36 and 13 where those come by value.
 pub struct ReadLengths {
@@ -77,10 +77,10 @@ fn numbers_refused(b: BlockSettings, r: Range, active: u32) -> u32
     )
 }
 
-// Line 7 but for what comes by value or on slices.
-fn lent_short(s: Settings, l: ReadLengths) -> bool
+// Line 7 but for coefficients and sine and arctangent numbers.
+fn buffers_short(s: Settings, l: ReadLengths) -> bool
     requires { ⌜ (s .frames ≤ 4096) × (s .factor ≤ 8) × (s .lanes ≤ 64) ⌝ }
-    ensures { λ r. ⌜ r ≡ lentShort s l ⌝ }
+    ensures { λ r. ⌜ r ≡ buffersShort s l ⌝ }
 {
     let controls = l.controls;
     let rows = rendered_length(s.frames, s.factor, s.lanes);
@@ -97,7 +97,7 @@ fn reads_short(s: Settings, l: ReadLengths) -> bool
     requires { ⌜ (s .frames ≤ 4096) × (s .factor ≤ 8) × (s .lanes ≤ 64) ⌝ }
     ensures { λ r. ⌜ r ≡ readsShort s l ⌝ }
 {
-    lent_short(s, l) | short(COEFS_LENGTH, l.coefs) | short(NUMBERS_LENGTH, l.numbers)
+    buffers_short(s, l) | short(COEFS_LENGTH, l.coefs) | short(NUMBERS_LENGTH, l.numbers)
 }
 
 // Line 8.

@@ -15,6 +15,7 @@ ghost use mathlib.Core.Path.{_≡_};
 ghost use Prim.Native.Nat.{_≤_};
 ghost use lib.ListN.{length, replicate};
 ghost use Rattle.floats.specs.F32.{0f};
+ghost use Rattle.limits.specs.Lengths.{coefsLength, numbersLength};
 ghost use Rattle.render.specs.Promises.{lent};
 ghost use Rattle.share.specs.Share.{buffers};
 ghost use Rattle.block.specs.Call.{called, Meets};
@@ -22,7 +23,7 @@ ghost use Rattle.block.specs.Numbers.{numbersOf, settingsOf, rangeOf};
 
 // The sine's five numbers, then the arctangent's eight.
 fn numbers_of(xs: &[f32]) -> Numbers
-    requires { ⌜ 13 ≤ length (now xs) ⌝ }
+    requires { ⌜ numbersLength ≤ length (now xs) ⌝ }
     ensures { λ r. ⌜ r ≡ numbersOf (now (xs .entry)) ⌝ }
 {
     let sin = [xs[0], xs[1], xs[2], xs[3], xs[4]];
@@ -48,7 +49,7 @@ fn settings_of(
     coefs: &[f32],
     numbers: &[f32],
 ) -> BlockSettings
-    requires { ⌜ 36 ≤ length (now coefs) ⌝ ∗ ⌜ 13 ≤ length (now numbers) ⌝ }
+    requires { ⌜ coefsLength ≤ length (now coefs) ⌝ ∗ ⌜ numbersLength ≤ length (now numbers) ⌝ }
     ensures { λ r. ⌜ r ≡ settingsOf mode0 mode1 character0 character1 factor lanes frames rate count0 count1 count2
         (now (coefs .entry)) (now (numbers .entry)) ⌝ }
 {

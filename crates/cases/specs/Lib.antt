@@ -1,1 +1,2 @@
+-- The definitions that contracts cite. Their laws are in proofs/.
 pub mod Cases

@@ -5,7 +5,7 @@ pub mod table;
 use limits::CURVE_LENGTH;
 use limits::Value;
 pub use table::steepest_of;
-pub use table::value_at;
+use table::value_at;
 ghost use mathlib.Core.Path.{_≡_};
 ghost use Rattle.curve.specs.Curve.{valueOf, steepestOf};
 ghost use Rattle.curve.specs.Answers.{answered};

@@ -2,9 +2,9 @@
 use mathlib.Core.Path.{_≡_}
 use Prim.Native.Nat.{ℕ, _^_, _≤_, _<_}
 use Rattle.halfband.specs.Floats.{designOf}
-use Rattle.halfband.specs.Refusal.{stagesOf}
+use Rattle.halfband.specs.Halfband.{stagesOf}
 use Rattle.shaper.specs.declared.settings.Range.{Range}
-use Rattle.render.specs.declared.cells.BlockSettings.{BlockSettings}
+use Rattle.render.specs.declared.state.BlockSettings.{BlockSettings}
 use Rattle.render.specs.Promises.{Limits}
 
 pub record Good (b : BlockSettings) : Type 0 where

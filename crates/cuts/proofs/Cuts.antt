@@ -6,7 +6,7 @@ use native.Mathlib.Nat.{zero-add, suc-add, add-assoc}
 use native.Mathlib.Omega.{arith}
 use lib.Ieee.{Float}
 use Rattle.grid.specs.Functions.{table}
-use Rattle.render.specs.declared.cells.BlockSettings.{BlockSettings}
+use Rattle.render.specs.declared.state.BlockSettings.{BlockSettings}
 use Rattle.render.specs.Lane.{Inputs}
 use Rattle.block.specs.Call.{Call, Meets, refusalOf, lanesOf, inputs}
 use Rattle.cuts.specs.Cuts.{entering, leaving, Alike, RunB, end, refuse, accept, rowsOf, outputOf, Untouched, Outside, Returned, AllOf, Demand3}

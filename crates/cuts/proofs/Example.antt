@@ -9,7 +9,7 @@ use Rattle.lanes.specs.Numbers.{rustNumbers}
 use Rattle.limits.specs.Lines.{firstOf}
 use Rattle.limits.specs.Lengths.{spansOf}
 use Rattle.halfband.specs.Floats.{cardDesigns}
-use Rattle.render.specs.declared.cells.BlockSettings.{BlockSettings}
+use Rattle.render.specs.declared.state.BlockSettings.{BlockSettings}
 use Rattle.controls.specs.Controls.{controlBuffers}
 use Rattle.render.specs.Lane.{Lent}
 use Rattle.share.specs.Share.{Buffers}

@@ -8,7 +8,7 @@ use Rattle.halfband.proofs.Cuts.{cascade-above}
 use Rattle.shaper.specs.declared.settings.Settings.{Settings}
 use Rattle.shaper.specs.declared.settings.Range.{Range}
 use Rattle.shaper.specs.Lane.{putPairs, putCarry}
-use Rattle.render.specs.declared.cells.BlockSettings.{BlockSettings}
+use Rattle.render.specs.declared.state.BlockSettings.{BlockSettings}
 use Rattle.render.specs.Lane.{Inputs}
 use Rattle.share.specs.Share.{Columns, rendered, decimated, copied, share}
 use Rattle.cuts.proofs.Accepted.{Good}

@@ -18,7 +18,7 @@ use Rattle.grid.proofs.TableLaws.{length-table, getD-table, blocks-in, blocks-p
 use Rattle.grid.proofs.CellLaws.{col-at, col-past, col-blk}
 use Rattle.shaper.specs.declared.settings.Settings.{Settings}
 use Rattle.shaper.specs.declared.settings.Range.{Range}
-use Rattle.render.specs.declared.cells.BlockSettings.{BlockSettings}
+use Rattle.render.specs.declared.state.BlockSettings.{BlockSettings}
 use Rattle.render.specs.Lane.{Lent, inputsOf}
 use Rattle.share.specs.Share.{Buffers, Columns, columnsOf, share}
 use Rattle.share.specs.Promises.{Writable}

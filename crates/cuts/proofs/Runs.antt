@@ -13,7 +13,7 @@ use Rattle.grid.proofs.CellLaws.{col-at, length-column, getD-column}
 use Rattle.limits.proofs.LineLaws.{in-range}
 use Rattle.halfband.specs.Ranges.{total}
 use Rattle.shaper.specs.declared.settings.Range.{Range}
-use Rattle.render.specs.declared.cells.BlockSettings.{BlockSettings}
+use Rattle.render.specs.declared.state.BlockSettings.{BlockSettings}
 use Rattle.render.specs.Lane.{Lent}
 use Rattle.share.specs.Share.{Buffers}
 use Rattle.share.specs.Promises.{Writable}

@@ -9,15 +9,14 @@ use native.Mathlib.Omega.{arith}
 use lib.Ieee.{Float}
 use Rattle.grid.specs.Functions.{upd, upto, span}
 use Rattle.grid.proofs.FunctionLaws.{upto-in, span-in, span-below, span-above}
-use Rattle.halfband.specs.Halfband.{View, cascade}
+use Rattle.halfband.specs.Halfband.{View, cascade, stagesOf}
 use Rattle.halfband.specs.Floats.{floats, designOf}
-use Rattle.halfband.specs.Refusal.{stagesOf}
 use Rattle.halfband.proofs.Cuts.{Joined, cut-joined, cascade-above}
 use Rattle.halfband.proofs.RangeLaws.{cascade-none, agree-rows, agree-cells}
 use Rattle.shaper.specs.declared.settings.Range.{Range}
 use Rattle.shaper.specs.Lane.{putPairs, putCarry}
-use Rattle.render.specs.declared.cells.BlockSettings.{BlockSettings}
-use Rattle.render.specs.declared.cells.Voice.{Voice}
+use Rattle.render.specs.declared.state.BlockSettings.{BlockSettings}
+use Rattle.render.specs.declared.state.Voice.{Voice}
 use Rattle.render.specs.Lane.{Inputs, voiceAfter, sampleAt, firstFrame, frameCount}
 use Rattle.share.specs.Share.{Columns, enters, rendered, decimated, copied, share}
 use Rattle.cuts.proofs.Accepted.{Good}

@@ -10,7 +10,7 @@ use Rattle.grid.specs.Functions.{table, blocks}
 use Rattle.grid.specs.Cells.{column, blk}
 use Rattle.grid.proofs.TableLaws.{getD-table, same-table, blocks-in, blocks-past}
 use Rattle.grid.proofs.CellLaws.{col-blk}
-use Rattle.render.specs.declared.cells.Voice.{Voice}
+use Rattle.render.specs.declared.state.Voice.{Voice}
 use Rattle.share.specs.Share.{Buffers, Columns, columnsOf, enters}
 use Rattle.cuts.specs.Cuts.{stateOf}
 

@@ -1,6 +1,6 @@
 -- The whole number closest to n / d: an even number more, or what is left of an even number. Assumes nothing.
-use mathlib.Core.Path.{_≡_, refl, sym, ap, _∙_, subst}
-use Prim.Native.Nat.{ℕ, zero, suc, _+_, _-_, _*_, _/_, _%_, _<_, _≤_, compare, Ordering, Ordering·lt, Ordering·eq, Ordering·gt}
+use mathlib.Core.Path.{_≡_, refl, sym, subst}
+use Prim.Native.Nat.{ℕ, zero, suc, _+_, _-_, _*_, _/_, _%_, _<_, compare, Ordering, Ordering·lt, Ordering·eq, Ordering·gt}
 use native.Mathlib.Nat.{zero-add, zero-lt-suc, mod-lt, mod-eq-of-lt, div-eq-of-lt, div-add-mod', div-lt-iff-lt-mul, add-mul-div-right, add-mul-mod-self-right}
 use native.Mathlib.Omega.{arith}
 use lib.Ieee.{nearest}

@@ -1,14 +1,14 @@
 -- x less its floor, for an x above -1 and below 1: x itself, or 1 more where x is below 0. Assumes nothing.
 use mathlib.Core.Path.{_≡_, refl, sym, ap, _∙_}
 use mathlib.Core.Bool.{Bool, true, false, cond, _&&_, Bool·beq}
-use Prim.Native.Nat.{ℕ, zero, suc, _+_, _-_, _*_, _/_, _%_, _<_, _≤_}
+use Prim.Native.Nat.{ℕ, zero, suc, _+_, _-_, _*_, _<_}
 use native.Mathlib.Nat.{zero-lt-suc, zero-mul, mul-pos, div-eq-of-lt, mod-eq-of-lt}
 use native.Mathlib.Omega.{arith}
-use lib.IntN.{ℤ, pos, negsuc}
+use lib.IntN.{ℤ, pos}
 use lib.Ieee.{Float, nan, inf, fin, binary32, up, down, size, units, odd, round, add, sub, sum, neg, lt, ofBits, ofInt}
 use lib.Ieee.Fits.{down-pos, up-pos}
 use lib.Ieee.Scale.{round-same}
-use borrow.Author.Tests.{lt-ltb, le-ltb, ltb-true, eq-eqb, ne-eqb}
+use borrow.Author.Tests.{lt-ltb, le-ltb, ltb-true, ne-eqb}
 use Rattle.floats.specs.F32.{_⊕_, _⊖_, 0f, 1f}
 use Rattle.floats.specs.Floor.{floorOf}
 use Rattle.floats.proofs.Values.{apart}

@@ -1,7 +1,7 @@
 -- The nearest whole number to an x below 2 ^ 22 in size, by adding and taking off 3 * 2 ^ 22, whatever the sign: it is the one of proofs/Floors.antt. Assumes nothing.
 use mathlib.Core.Path.{_≡_, refl, sym, ap, _∙_}
 use mathlib.Core.Logic.{inl, inr}
-use mathlib.Core.Bool.{Bool, true, false, cond}
+use mathlib.Core.Bool.{true, false, cond}
 use Prim.Native.Nat.{ℕ, zero, suc, _+_, _-_, _*_, _/_, _%_, _^_, _<_, _≤_, compare}
 use native.Mathlib.Nat.{zero-lt-suc, le-of-eq, mul-one, mul-pos, eq-or-lt-of-le, div-lt-iff-lt-mul}
 use native.Mathlib.Omega.{arith}
@@ -15,7 +15,7 @@ use borrow.Author.Tests.{lt-ltb, ltb-true}
 use Rattle.floats.specs.Floor.{floorOf}
 use Rattle.floats.proofs.Closest.{closest-more, closest-less}
 use Rattle.floats.proofs.Floors.{near-whole, one, t-is, sum-size, plus-is, minus-is, pow-ge, found}
-use Rattle.floats.proofs.NearWhole.{near, two23, shifted, near-ge, sum-value, rounded}
+use Rattle.floats.proofs.NearWhole.{near, two23, shifted, sum-value, rounded}
 use Rattle.floats.proofs.Values.{apart, sub-round, sub-below, rise-round, fall-round}
 
 abbrev pub two22 : Float

@@ -1,3 +1,4 @@
+-- The definitions that contracts cite. Their laws are in proofs/.
 pub mod F32
 pub mod Steps
 pub mod Pattern

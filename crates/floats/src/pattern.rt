@@ -1,4 +1,5 @@
 // An f32 taken apart by its bit pattern.
+use crate::cast::nearest_u32;
 ghost use mathlib.Core.Path.{_≡_};
 ghost use Rattle.floats.specs.Pattern.{significandOf, exponentOf, splitOf};
 
@@ -42,7 +43,7 @@ pub fn split(x: f32) -> Parts
         let biased = f32::to_bits(x) >> 23;
         let scale = f32::from_bits((766 - biased) % 512 * 0x80_0000);
         Parts {
-            exponent: biased as f32 - 127.0,
+            exponent: nearest_u32(biased) - 127.0,
             mantissa: x * scale,
         }
     }

@@ -10,7 +10,7 @@ use Rattle.grid.specs.Functions.{upd, blocks}
 use Rattle.grid.specs.Cells.{col, column, blk}
 use Rattle.grid.proofs.Index.{same-row, same-lane}
 use Rattle.grid.proofs.FunctionLaws.{upd-by}
-use Rattle.grid.proofs.TableLaws.{length-table, getD-table, same-table, table-at, blocks-in, blocks-at, blocks-upd, blocks-inj}
+use Rattle.grid.proofs.TableLaws.{length-table, getD-table, blocks-in, blocks-at, blocks-upd, blocks-inj}
 
 module _ {A : Type 0} (d : A) where
   -- ---- a column
@@ -55,18 +55,6 @@ module _ {A : Type 0} (d : A) where
   unfolding column
   getD-column n l k xs r h = getD-table k _ r d h
 
-  -- columns that agree in the first k rows are one list
-  pub same-column : (n l k : ℕ) (xs ys : List A) → ((r : ℕ) → r < k → col d n l xs r ≡ col d n l ys r)
-      → column d n l k xs ≡ column d n l k ys
-  unfolding column
-  same-column n l k xs ys h = same-table k _ _ h
-
-  -- and the other way round
-  pub column-at : (n l k : ℕ) (xs ys : List A) → column d n l k xs ≡ column d n l k ys → (r : ℕ) → r < k
-      → col d n l xs r ≡ col d n l ys r
-  unfolding column
-  column-at n l k xs ys e r h = table-at k _ _ e r h
-
   -- ---- a column in blocks of h rows
 
   pub blk-at : (h n l : ℕ) (xs : List A) (b i : ℕ) → i < h → blk d h n l xs b i ≡ getD xs ((h * b + i) * n + l) d
@@ -89,11 +77,6 @@ module _ {A : Type 0} (d : A) where
   pub col-blk : (h n l : ℕ) (xs : List A) (r : ℕ) → 0 < h → blk d h n l xs (r / h) (r % h) ≡ col d n l xs r
   unfolding blk
   col-blk h n l xs r hh = blocks-at d h _ r hh
-
-  -- equal columns, equal blocks
-  pub blk-of-col : (h n l : ℕ) (xs ys : List A) → col d n l xs ≡ col d n l ys → blk d h n l xs ≡ blk d h n l ys
-  unfolding blk
-  blk-of-col h n l xs ys e = ap (blocks d h) e
 
   -- and the other way round
   pub col-of-blk : (h n l : ℕ) (xs ys : List A) → 0 < h → blk d h n l xs ≡ blk d h n l ys → col d n l xs ≡ col d n l ys

@@ -1,11 +1,16 @@
 -- The laws of what is done to each lane of an interval. A run over the first k lanes promises `Each n 0 k F`, and a call for one lane
--- `Each n l (l + 1) F`: a loop over lanes keeps `Each n 0 l F`, from `each-none` by `each-join` or `each-more`. The two cases of
+-- `Each n l (l + 1) F`: a loop over lanes keeps `Each n 0 l F`, from `each-none` by `each-join`. The two cases of
 -- `Each` are read by its fields, and a record literal makes it from them. Assumes nothing.
 use mathlib.Core.Path.{_≡_, refl, sym, _∙_, ap}
-use Prim.Native.Nat.{ℕ, _+_, _≤_, _<_}
+use mathlib.Core.List.{List}
+use Prim.Native.Nat.{ℕ, _+_, _*_, _≤_, _<_}
 use native.Mathlib.Decide.{decLt}
 use native.Mathlib.Omega.{arith}
+use lib.ListN.{length, set}
+use Rattle.grid.specs.Functions.{upd}
+use Rattle.grid.specs.Cells.{columns}
 use Rattle.grid.specs.Lanes.{Each}
+use Rattle.grid.proofs.CellLaws.{col-set, col-set-other}
 
 module _ {X : Type 0} {n : ℕ} {F : ℕ → X → X} where
   -- no lane
@@ -48,11 +53,6 @@ module _ {X : Type 0} {n : ℕ} {F : ℕ → X → X} where
       go l hl lo hi (yes h) = each-below second l hl h ∙ first .inside l hl lo h
       go l hl lo hi (no h) = second .inside l hl (omega arith) hi ∙ ap (F l) (each-above first l hl (omega arith))
 
-  -- one lane more at the top end
-  pub each-more : {a k : ℕ} {w w' w'' : ℕ → X} → a ≤ k → Each n a k F w w' → w'' k ≡ F k (w' k)
-      → ((l : ℕ) → l < n → (l ≡ k → ⊥) → w'' l ≡ w' l) → Each n a (k + 1) F w w''
-  each-more h was here others = each-join h (omega arith) was (each-one here others)
-
   -- ---- uniqueness: F leaves no lane's view open
 
   pub each-unique : {a b : ℕ} {w w' w'' : ℕ → X} → Each n a b F w w' → Each n a b F w w'' → (l : ℕ) → l < n → w' l ≡ w'' l
@@ -87,11 +87,8 @@ each-same did e =
       outside = λ l hl free. did .outside l hl free;
     }
 
--- what is done to a part of the views
-pub each-part : {X Y : Type 0} {n a b : ℕ} {F : ℕ → X → X} {G : ℕ → Y → Y} {w w' : ℕ → X} (part : X → Y) → Each n a b F w w'
-    → ((l : ℕ) → l < n → a ≤ l → l < b → part (F l (w l)) ≡ G l (part (w l))) → Each n a b G (λ l. part (w l)) (λ l. part (w' l))
-each-part part did e =
-    record {
-      inside = λ l hl lo hi. ap part (did .inside l hl lo hi) ∙ e l hl lo hi;
-      outside = λ l hl free. ap part (did .outside l hl free);
-    }
+-- a store is done to one lane
+pub each-set : {A : Type 0} (d : A) (n l : ℕ) (xs : List A) (r : ℕ) (v : A) → l < n → r * n + l < length xs
+    → Each n l (l + 1) (λ _ f. upd f r v) (columns d n xs) (columns d n (set xs (r * n + l) v))
+each-set d n l xs r v hl h =
+    each-one (col-set d n l xs r v hl h) (λ m hm ne. col-set-other d n m xs l r v hm hl ne)

@@ -12,10 +12,6 @@ whole-row r rows n h = omega (arith, mul-le-mul-right n h, suc-mul r n)
 pub row-in : (r rows l n : ℕ) → r < rows → l < n → r * n + l < rows * n
 row-in r rows l n h hl = omega (arith, whole-row r rows n h)
 
--- a cell of a row that is not below `rows` lies past rows × n cells
-pub row-past : (r rows l n : ℕ) → rows ≤ r → rows * n ≤ r * n + l
-row-past r rows l n h = omega (arith, mul-le-mul-right n h)
-
 -- two cells at one place are of one row
 pub same-row : (r s l m n : ℕ) → l < n → m < n → r * n + l ≡ s * n + m → r ≡ s
 same-row r s l m n hl hm e =

@@ -3,7 +3,5 @@ pub mod Index
 pub mod FunctionLaws
 pub mod TableLaws
 pub mod CellLaws
-pub mod KeptLaws
 pub mod EachLaws
-pub mod BufferLaws
 pub mod OrderLaws

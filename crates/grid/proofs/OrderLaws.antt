@@ -1,7 +1,7 @@
 -- A call for each lane of an interval, once each and in any order, does what one call for the whole interval does. Assumes nothing.
 use mathlib.Core.Path.{_≡_, refl, _∙_, ap}
 use mathlib.Core.List.{List, [], _∷_}
-use Prim.Native.Nat.{ℕ, suc, _+_, _≤_, _<_}
+use Prim.Native.Nat.{ℕ, suc, _<_}
 use native.Mathlib.Decide.{ℕ-discrete}
 use native.Mathlib.Omega.{arith}
 use borrow.Author.Tests.{eq-eqb, ne-eqb}
@@ -19,22 +19,6 @@ times-same l ls = rw (eq-eqb l l refl)
 pub times-other : (m l : ℕ) (ls : List ℕ) → (m ≡ l → ⊥) → times m (l ∷ ls) ≡ times m ls
 unfolding times
 times-other m l ls ne = rw (ne-eqb m l ne)
-
--- there is such a list for every interval
-pub once-none : (a : ℕ) → Once a a []
-once-none a = record { inside = λ m lo hi. absurd (omega arith); outside = λ m free. times-nil m }
-
-pub once-more : {a k : ℕ} {ls : List ℕ} → a ≤ k → Once a k ls → Once a (k + 1) (k ∷ ls)
-once-more {a} {k} {ls} h once =
-    record {
-      inside = λ m lo hi. go m lo hi (ℕ-discrete m k);
-      outside = λ m free.
-          times-other m k ls (λ e. free (omega arith) (omega arith)) ∙ once .outside m (λ lo hi. free lo (omega arith));
-    }
-  where
-    go : (m : ℕ) → a ≤ m → m < k + 1 → Dec (m ≡ k) → times m (k ∷ ls) ≡ 1
-    go m lo hi (yes e) = rw (e, times-same, once .outside k (λ p q. omega arith))
-    go m lo hi (no ne) = times-other m k ls ne ∙ once .inside m lo (omega arith)
 
 module _ {X : Type 0} {n : ℕ} {F : ℕ → X → X} where
   -- a lane with no call

@@ -1,6 +1,5 @@
 -- The laws of functions whose values are listed (`table`) or taken in blocks (`blocks`). Assumes nothing.
 use mathlib.Core.Path.{_≡_, refl, sym, _∙_, ap, fun-ext}
-use mathlib.Core.List.{List}
 use Prim.Native.Nat.{ℕ, zero, suc, _+_, _*_, _/_, _%_, _≤_, _<_}
 use native.Mathlib.Nat.{mul-comm, div-add-mod, mod-lt}
 use native.Mathlib.Decide.{decLt}
@@ -30,10 +29,6 @@ module _ {A : Type 0} where
   unfolding table
   same-table zero f g h = refl
   same-table (suc k) f g h = rw (h 0 (omega arith), same-table k (λ i. f (suc i)) (λ i. g (suc i)) (λ i b. h (suc i) (omega arith)))
-
-  -- and the other way round
-  pub table-at : (k : ℕ) (f g : ℕ → A) → table k f ≡ table k g → (i : ℕ) → i < k → f i ≡ g i
-  table-at k f g e i h = sym (getD-table k f i (f i) h) ∙ ap (λ (xs : List A). getD xs i (f i)) e ∙ getD-table k g i (f i) h
 
   -- ---- blocks of h values
 

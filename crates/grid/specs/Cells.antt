@@ -1,9 +1,8 @@
 -- The cells of a lent buffer: rows of n numbers, one for each lane. A lane's number in a row lies at row × n + lane.
 -- d is what a read past the buffer's end gives: it makes a column a function of every row. Definitions only.
-use mathlib.Core.Path.{_≡_}
 use mathlib.Core.List.{List}
-use Prim.Native.Nat.{ℕ, _+_, _*_, _≤_, _<_}
-use lib.ListN.{length, getD}
+use Prim.Native.Nat.{ℕ, _+_, _*_}
+use lib.ListN.{getD}
 use Rattle.grid.specs.Functions.{table, blocks}
 
 module _ {A : Type 0} (d : A) where
@@ -22,8 +21,3 @@ module _ {A : Type 0} (d : A) where
   -- the column of lane l in blocks of h rows: cell i of block b lies in row h × b + i
   unfoldable pub blk : ℕ → ℕ → ℕ → List A → ℕ → ℕ → A
   blk h n l xs = blocks d h (col n l xs)
-
-  -- ys is as long as xs, and as xs in every cell but those of the lanes from ≤ l < to in the rows lo ≤ r < hi
-  pub record Kept (n from to lo hi : ℕ) (xs ys : List A) : Type 0 where
-    pub size : length ys ≡ length xs
-    pub cells : (r l : ℕ) → l < n → (from ≤ l → l < to → lo ≤ r → r < hi → ⊥) → col n l ys r ≡ col n l xs r

@@ -1,11 +1,10 @@
 -- The laws of the stages of a call: what is left of the cascade after each, and that each has its rows. Assumes nothing.
 use mathlib.Core.Path.{_≡_, fun-ext}
-use Prim.Native.Nat.{ℕ, zero, suc, _+_, _-_, _*_, _%_, _^_, _≤_, _<_}
+use Prim.Native.Nat.{ℕ, zero, suc, _-_, _*_, _%_, _^_, _≤_, _<_}
 use native.Mathlib.Nat.{mul-le-mul, mul-le-mul-left, mul-le-mul-right, mul-assoc, pow-suc, mod-eq-of-lt}
 use native.Mathlib.Numerals.{sub-one}
 use native.Mathlib.Omega.{arith}
 use lib.Pow.{pow-mono}
-use lib.Ieee.{Float}
 use Rattle.grid.specs.Lanes.{Each}
 use Rattle.grid.proofs.EachLaws.{each-id, each-then}
 use Rattle.halfband.specs.declared.design.Designs.{Designs}

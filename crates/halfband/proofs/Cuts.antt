@@ -4,7 +4,6 @@ use Prim.Native.Nat.{ℕ, zero, suc, _+_, _*_, _^_, _≤_, _<_}
 use native.Mathlib.Decide.{ℕ-discrete}
 use native.Mathlib.Nat.{add-zero, add-suc, add-assoc, mul-add, add-mul, mul-assoc, mul-comm, pow-suc}
 use native.Mathlib.Omega.{arith}
-use Rattle.grid.specs.Functions.{upd, upto}
 use Rattle.grid.proofs.FunctionLaws.{upd-same, upd-other, upto-in, upto-out}
 use Rattle.halfband.specs.Halfband.{Kind, Sections, View, frame, after, out, stage, cascade}
 use Rattle.halfband.specs.Ranges.{from}

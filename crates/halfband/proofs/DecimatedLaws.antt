@@ -1,24 +1,21 @@
 -- The laws of a decimation's promise. Assumes nothing.
 use mathlib.Core.Path.{_≡_, refl, sym, _∙_, ap}
-use mathlib.Core.Bool.{cond}
 use mathlib.Core.List.{List}
-use Prim.Native.Nat.{ℕ, _≤_, _<_}
+use Prim.Native.Nat.{ℕ, _<_}
 use native.Mathlib.Decide.{ℕ-discrete}
 use native.Mathlib.Omega.{arith}
-use lib.Dec.{eqb}
 use lib.ListN.{length}
 use lib.Ieee.{Float, nan}
 use borrow.Author.Tests.{ne-eqb}
-use Rattle.grid.specs.Cells.{col, blk}
 use Rattle.grid.proofs.CellLaws.{same-columns, same-blocks}
 use Rattle.grid.proofs.EachLaws.{each-unique}
 use Rattle.limits.specs.declared.answers.Answer.{Answer}
 use Rattle.limits.proofs.LineLaws.{good-lanes}
 use Rattle.halfband.specs.declared.design.Designs.{Designs}
 use Rattle.halfband.specs.Halfband.{View, view, views}
-use Rattle.halfband.specs.Floats.{floats, designOf}
+use Rattle.halfband.specs.Floats.{floats}
 use Rattle.halfband.specs.Decimated.{callNumber, Decimated}
-use Rattle.halfband.proofs.RefusalLaws.{Passed, accepted, passed}
+use Rattle.halfband.proofs.RefusalLaws.{accepted, passed}
 
 module _ (ds : Designs) (coefs factor n active f : ℕ) (buf st : List Float) where
   abbrev Number : ℕ

@@ -1,12 +1,12 @@
 -- The laws of a stage's cells in a local array: a section's stores, and how the array is loaded and stored. Assumes nothing.
 use mathlib.Core.Path.{_≡_, refl, sym, _∙_, ap}
 use mathlib.Core.List.{List}
-use Prim.Native.Nat.{ℕ, _+_, _*_, _≤_, _<_}
+use Prim.Native.Nat.{ℕ, _+_, _*_, _<_}
 use native.Mathlib.Omega.{arith}
 use lib.ListN.{length, getD, set, length-set}
 use lib.Seq.{getD-set-same, getD-set-other}
 use lib.Ieee.{Float, nan}
-use Rattle.grid.specs.Functions.{upd, upto}
+use Rattle.grid.specs.Functions.{upd}
 use Rattle.grid.specs.Cells.{blk}
 use Rattle.grid.proofs.Index.{row-in}
 use Rattle.grid.proofs.FunctionLaws.{upd-by, upd-same, upd-upd, upd-self, upto-none, upto-more}

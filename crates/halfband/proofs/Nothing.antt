@@ -9,9 +9,8 @@ use Rattle.grid.specs.Lanes.{Each}
 use Rattle.grid.proofs.EachLaws.{each-id, each-none, each-same}
 use Rattle.limits.specs.declared.answers.Answer.{Answer}
 use Rattle.halfband.specs.declared.design.Designs.{Designs}
-use Rattle.halfband.specs.Halfband.{views, cascade}
+use Rattle.halfband.specs.Halfband.{views, cascade, stagesOf}
 use Rattle.halfband.specs.Floats.{floats, designOf}
-use Rattle.halfband.specs.Refusal.{stagesOf}
 use Rattle.halfband.specs.Decimated.{lanePart, Decimated}
 use Rattle.halfband.proofs.DecimatedLaws.{same-ends}
 use Rattle.halfband.proofs.RangeLaws.{cascade-still}

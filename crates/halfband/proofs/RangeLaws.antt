@@ -6,7 +6,6 @@ use Prim.Native.Nat.{ℕ, zero, suc, _+_, _-_, _*_, _^_, _≤_, _<_}
 use native.Mathlib.Decide.{decLt}
 use native.Mathlib.Nat.{add-zero, zero-mul}
 use native.Mathlib.Omega.{arith}
-use Rattle.grid.specs.Functions.{upto}
 use Rattle.grid.proofs.FunctionLaws.{upto-in, upto-out, upto-none, upd-self}
 use Rattle.halfband.specs.Halfband.{Kind, Sections, View, after, out, stage, cascade}
 use Rattle.halfband.specs.Ranges.{from, total, one, cellsAfter, outputs}

@@ -5,11 +5,12 @@ use Prim.Native.Nat.{ℕ, zero, suc, _^_, _≤_, _<_}
 use native.Mathlib.Omega.{arith}
 use Rattle.limits.specs.Lines.{firstOf, numberLines, badFactor, badLanes, badFrames, badCounts}
 use Rattle.limits.specs.Lengths.{renderedLength, coefsLength, stateLength, shorter}
-use Rattle.limits.proofs.LineLaws.{thenLengths, whole-table, first-passed, or-false, the-factor, good-lanes, good-frames, good-counts}
+use Rattle.limits.proofs.LineLaws.{thenLengths, whole-table, no-line, or-false, the-factor, good-lanes, good-frames, good-counts}
 use Rattle.limits.proofs.LengthLaws.{long-enough}
 use Rattle.halfband.specs.declared.design.Designs.{Designs}
 use Rattle.halfband.specs.Floats.{designOf}
-use Rattle.halfband.specs.Refusal.{refusal, stagesOf}
+use Rattle.halfband.specs.Halfband.{stagesOf}
+use Rattle.halfband.specs.Refusal.{refusal}
 use Rattle.halfband.specs.Promises.{Taken}
 use Rattle.halfband.specs.Decimated.{callNumber}
 
@@ -58,21 +59,18 @@ module _ (ds : Designs) (coefs factor n active f buffer state : ℕ) where
   passed p = rw (p .factors, p .lanes, p .frames, p .counts, p .read, p .rows, p .cells)
 
   pub accepted : callNumber ds coefs factor n active f buffer state ≡ 0 → Passed ds coefs factor n active f buffer state
-  unfolding refusal
+  unfolding refusal firstOf
   accepted e =
-      let p2 = first-passed (badFactor factor) 1 _ e in
-      let p3 = first-passed (badLanes n active) 2 _ (p2 .1) in
-      let p4 = first-passed (badFrames f) 3 _ (p3 .1) in
-      let p6 = first-passed (badCounts (designOf ds 0 .count) (designOf ds 1 .count) (designOf ds 2 .count)) 5 _ (p4 .1) in
-      let p7 = first-passed (shorter coefsLength coefs) 6 _ (p6 .1) in
-      let p8 = first-passed (shorter (renderedLength f factor n) buffer || shorter (stateLength n) state) 7 _ (p7 .1) in
-      let written = or-false (shorter (renderedLength f factor n) buffer) (shorter (stateLength n) state) (p8 .0) in
+      let p =
+      no-line false (badFactor factor) (badLanes n active) (badFrames f) false (badCounts (designOf ds 0 .count) (designOf ds 1 .count) (designOf ds 2 .count))
+      (shorter coefsLength coefs) (shorter (renderedLength f factor n) buffer || shorter (stateLength n) state) e in
+      let written = or-false (shorter (renderedLength f factor n) buffer) (shorter (stateLength n) state) (p .written) in
       record {
-        factors = p2 .0;
-        lanes = p3 .0;
-        frames = p4 .0;
-        counts = p6 .0;
-        read = p7 .0;
+        factors = p .numbers .factor;
+        lanes = p .numbers .lanes;
+        frames = p .numbers .frames;
+        counts = p .numbers .counts;
+        read = p .read;
         rows = written .0;
         cells = written .1;
       }

@@ -1,19 +1,19 @@
 -- The laws of a stage on one lane, over plain lists. Assumes nothing.
 use mathlib.Core.Path.{_≡_, refl, sym, _∙_, ap, fun-ext}
 use mathlib.Core.List.{List}
-use Prim.Native.Nat.{ℕ, _+_, _*_, _≤_, _<_}
+use Prim.Native.Nat.{ℕ, _+_, _*_, _<_}
 use native.Mathlib.Numerals.{add-one}
 use native.Mathlib.Omega.{arith}
 use lib.ListN.{length, getD, set, length-set}
 use lib.Ieee.{Float, nan}
 use Rattle.grid.specs.Functions.{upd, upto}
-use Rattle.grid.specs.Cells.{col, blk, columns}
+use Rattle.grid.specs.Cells.{col, blk}
 use Rattle.grid.specs.Lanes.{Each}
 use Rattle.grid.proofs.Index.{row-in}
 use Rattle.grid.proofs.FunctionLaws.{upto-none, upto-out, upto-more}
 use Rattle.grid.proofs.CellLaws.{col-at, col-set, col-set-other}
 use Rattle.grid.proofs.EachLaws.{each-one, one-lane, one-others}
-use Rattle.halfband.specs.Halfband.{Sections, View, view, views, after, out, stage}
+use Rattle.halfband.specs.Halfband.{Sections, view, views, after, out, stage}
 use Rattle.halfband.specs.Floats.{floats}
 use Rattle.halfband.specs.Promises.{cellsOf, Framed, Run, Loaded, Stored, Rows}
 use Rattle.halfband.proofs.ChainLaws.{out-alike, after-upto}

@@ -9,9 +9,9 @@ use lib.Ieee.{Float}
 use Rattle.grid.specs.Lanes.{Each}
 use Rattle.limits.specs.declared.answers.Answer.{Answer}
 use Rattle.halfband.specs.declared.design.Designs.{Designs}
-use Rattle.halfband.specs.Halfband.{View, views, cascade}
+use Rattle.halfband.specs.Halfband.{View, views, cascade, stagesOf}
 use Rattle.halfband.specs.Floats.{floats, designOf}
-use Rattle.halfband.specs.Refusal.{refusal, stagesOf}
+use Rattle.halfband.specs.Refusal.{refusal}
 
 -- one lane's share of an accepted call
 abbrev pub lanePart : Designs → ℕ → ℕ → View Float → View Float

@@ -1,8 +1,10 @@
 -- The decimator of halfband.rs on one lane, over any kind of number: a cascade of two-to-one stages, each a chain of sections on
 -- two paths. A lane's state is a block of 24 cells for each stage, counted from the output: cell 2i is section i's last input (the
 -- Rust's x[i]) and cell 2i + 1 its last output (y[i]). Definitions only.
+use mathlib.Core.Bool.{cond}
 use mathlib.Core.List.{List, [], _∷_}
 use Prim.Native.Nat.{ℕ, zero, suc, _+_, _*_, _^_, _%_}
+use lib.Dec.{eqb}
 use lib.ListN.{getD, set}
 use Rattle.grid.specs.Functions.{upd, upto}
 use Rattle.grid.specs.Cells.{col, blk}
@@ -32,6 +34,10 @@ pub record Chain (A : Type 0) : Type 0 where
 pub record View (A : Type 0) : Type 0 where
   pub rows : ℕ → A
   pub cells : ℕ → ℕ → A
+
+-- the stages of a factor: how many times 2 goes into it
+unfoldable pub stagesOf : ℕ → ℕ
+stagesOf factor = cond (eqb factor 2) 1 (cond (eqb factor 4) 2 (cond (eqb factor 8) 3 0))
 
 module _ {A : Type 0} (K : Kind A) where
   -- what section i is given: paths[i % 2]

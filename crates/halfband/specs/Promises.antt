@@ -7,6 +7,7 @@ use lib.Ieee.{Float, nan}
 use Rattle.grid.specs.Functions.{upd, upto}
 use Rattle.grid.specs.Cells.{col, columns, blk}
 use Rattle.grid.specs.Lanes.{Each}
+use Rattle.limits.specs.Lengths.{stateLength}
 use Rattle.halfband.specs.declared.design.Designs.{Designs}
 use Rattle.halfband.specs.Halfband.{Sections, frame, mixed, after, out}
 use Rattle.halfband.specs.Floats.{floats, designOf}
@@ -46,7 +47,7 @@ pub record Room (size b n l : ℕ) : Type 0 where
   pub low : b < 3
   pub few : n ≤ 64
   pub lane : l < n
-  pub held : 72 * n ≤ size
+  pub held : stateLength n ≤ size
 
 -- the first k cells of the block are in the array
 pub record Loaded (st : List Float) (b n l k : ℕ) (z : List Float) : Type 0 where
@@ -70,4 +71,4 @@ pub record Taken (ds : Designs) (s f n buffer state : ℕ) : Type 0 where
   pub frames : f ≤ 4096
   pub counts : (j : ℕ) → j < 3 → designOf ds j .count ≤ 12
   pub rows : f * 2 ^ s * n ≤ buffer
-  pub cells : 72 * n ≤ state
+  pub cells : stateLength n ≤ state

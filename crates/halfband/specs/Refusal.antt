@@ -1,8 +1,7 @@
 -- The lines of document 01's table of refusals ("Turned down") that a decimation has, for its arguments, and its number. Definitions only.
-use mathlib.Core.Bool.{cond, _||_}
+use mathlib.Core.Bool.{_||_}
 use mathlib.Core.List.{[], _∷_}
 use Prim.Native.Nat.{ℕ}
-use lib.Dec.{eqb}
 use Rattle.limits.specs.Lines.{firstOf, badFactor, badLanes, badFrames, badCounts}
 use Rattle.limits.specs.Lengths.{renderedLength, coefsLength, stateLength, shorter}
 
@@ -17,7 +16,3 @@ refusal factor n active frames count0 count1 count2 coefs buffer state =
     ∷ (shorter coefsLength coefs, 7)
     ∷ (shorter (renderedLength frames factor n) buffer || shorter (stateLength n) state, 8)
     ∷ [])
-
--- the stages of a factor: how many times 2 goes into it
-unfoldable pub stagesOf : ℕ → ℕ
-stagesOf factor = cond (eqb factor 2) 1 (cond (eqb factor 4) 2 (cond (eqb factor 8) 3 0))

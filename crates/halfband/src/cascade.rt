@@ -1,17 +1,30 @@
 // The stages of a call, in place: `Decimator::process`.
 use crate::design::Designs;
 use crate::refusal::refused;
-use crate::refusal::stages_of;
 use crate::stage::stage;
 use limits::Answer;
+use limits::COEFS_LENGTH;
 ghost use mathlib.Core.Path.{_≡_};
 ghost use Prim.Native.Nat.{_+_, _<_, _≤_};
 ghost use lib.ListN.{length};
 ghost use Rattle.grid.specs.Lanes.{Each};
-ghost use Rattle.halfband.specs.Halfband.{views};
+ghost use Rattle.limits.specs.Lengths.{coefsLength};
+ghost use Rattle.halfband.specs.Halfband.{views, stagesOf};
 ghost use Rattle.halfband.specs.Floats.{floats};
 ghost use Rattle.halfband.specs.Promises.{Taken};
 ghost use Rattle.halfband.specs.Decimated.{lanePart, Decimated};
+
+// How many stages a factor takes.
+pub fn stages_of(factor: u32) -> usize
+    ensures { λ r. ⌜ r ≡ stagesOf factor ⌝ }
+{
+    match factor {
+        2 => 1,
+        4 => 2,
+        8 => 3,
+        _ => 0,
+    }
+}
 
 // One lane's whole share of a call: the stages, the one farthest from the output first.
 pub fn decimate_lane(
@@ -75,7 +88,7 @@ pub fn process(
     buffer: &mut [f32],
     state: &mut [f32],
 ) -> Answer
-    ensures { λ r. ⌜ Decimated designs 36 factor lanes active frames
+    ensures { λ r. ⌜ Decimated designs coefsLength factor lanes active frames
         (now (buffer .entry)) (now (state .entry)) (now (buffer .exit)) (now (state .exit)) r ⌝ }
 {
     let last = designs.stages[0];
@@ -89,7 +102,7 @@ pub fn process(
         last.count,
         middle.count,
         first.count,
-        36,
+        COEFS_LENGTH,
         buffer.len(),
         state.len(),
     );

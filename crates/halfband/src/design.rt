@@ -2,6 +2,7 @@
 ghost use mathlib.Core.Path.{_≡_};
 ghost use Prim.Native.Nat.{_+_, _≤_};
 ghost use lib.ListN.{length};
+ghost use Rattle.limits.specs.Lengths.{coefsLength};
 ghost use Rattle.halfband.specs.Floats.{designAt, designsOf, cardDesigns};
 
 // The first coefficient goes to the path that is fed the later sample of each pair, then they
@@ -96,7 +97,7 @@ fn design_at(coefs: &[f32], at: usize, count: u32) -> Design
 
 // Three designs from one slice, 12 coefficients each.
 pub fn designs_of(coefs: &[f32], count0: u32, count1: u32, count2: u32) -> Designs
-    requires { ⌜ 36 ≤ length (now coefs) ⌝ }
+    requires { ⌜ coefsLength ≤ length (now coefs) ⌝ }
     ensures { λ r. ⌜ r ≡ designsOf (now (coefs .entry)) count0 count1 count2 ⌝ }
 {
     let last = design_at(coefs, 0, count0);

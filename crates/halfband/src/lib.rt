@@ -7,11 +7,10 @@ pub mod stage;
 
 pub use cascade::decimate_lane;
 pub use cascade::process;
+pub use cascade::stages_of;
 pub use design::CARD;
 pub use design::Design;
 pub use design::Designs;
 pub use design::card_designs;
 pub use design::designs_of;
-pub use limits::Answer;
 pub use refusal::refused;
-pub use refusal::stages_of;

@@ -1,4 +1,4 @@
-// When a decimation is turned down, and its stages.
+// When a decimation is turned down.
 use limits::COEFS_LENGTH;
 use limits::counts_bad;
 use limits::factor_bad;
@@ -13,7 +13,7 @@ ghost use mathlib.Core.Bool.{false, _||_};
 ghost use Prim.Native.Nat.{_≤_};
 ghost use Rattle.limits.specs.Lines.{firstOf, numberLines, badFactor, badLanes, badFrames, badCounts};
 ghost use Rattle.limits.specs.Lengths.{renderedLength, stateLength, shorter};
-ghost use Rattle.halfband.specs.Refusal.{refusal, stagesOf};
+ghost use Rattle.halfband.specs.Refusal.{refusal};
 
 // Lines 2 to 6.
 fn numbers_refused(
@@ -72,16 +72,4 @@ pub fn refused(
         return 8;
     }
     0
-}
-
-// How many stages a factor takes.
-pub fn stages_of(factor: u32) -> usize
-    ensures { λ r. ⌜ r ≡ stagesOf factor ⌝ }
-{
-    match factor {
-        2 => 1,
-        4 => 2,
-        8 => 3,
-        _ => 0,
-    }
 }

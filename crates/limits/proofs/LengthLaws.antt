@@ -51,11 +51,6 @@ pub spans-small : (frames : ℕ) → frames ≤ 4096 → spansOf frames ≤ 128
 unfolding spansOf
 spans-small frames l = omega arith
 
--- a sub-block's first host frame
-pub span-first : (frames s : ℕ) → s < spansOf frames → s * 32 < frames
-unfolding spansOf
-span-first frames s l = omega arith
-
 -- ---- the largest lengths
 
 pub host-most : (frames n : ℕ) → frames ≤ 4096 → n ≤ 64 → hostLength frames n ≤ 4096 * 64

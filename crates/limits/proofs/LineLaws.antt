@@ -6,7 +6,7 @@ use Prim.Native.Nat.{ℕ, suc, _+_, _*_, _≤_, _<_}
 use native.Mathlib.Omega.{arith}
 use lib.Dec.{ltb, eqb}
 use borrow.Author.Tests.{ltb-true, ltb-false, le-ltb, eqb-true, not-false}
-use Rattle.limits.specs.Lines.{firstOf, numberLines, badMode, badModes, badFactor, badLanes, badLane, badFrames, badRange, badFrame, badAsked, badRate, badCount, badCounts}
+use Rattle.limits.specs.Lines.{firstOf, numberLines, badFactor, badLanes, badLane, badFrames, badRange, badFrame, badAsked, badRate, badCount, badCounts}
 
 -- ---- any table
 
@@ -37,15 +37,31 @@ module _ (a b c d e f : Bool) where
     pub rate : e ≡ false
     pub counts : f ≡ false
 
-  pub numbers-passed : firstOf (numberLines a b c d e f) ≡ 0 → Numbers
-  numbers-passed h =
-      let p1 = first-passed a 0 _ h in
+  -- nor 7 nor 8
+  pub record NoLine (g h : Bool) : Type 0 where
+    pub numbers : Numbers
+    pub read : g ≡ false
+    pub written : h ≡ false
+
+  pub no-line : (g h : Bool) → firstOf (allLines g h) ≡ 0 → NoLine g h
+  no-line g h z =
+      let p1 = first-passed a 0 _ z in
       let p2 = first-passed b 1 _ (p1 .1) in
       let p3 = first-passed c 2 _ (p2 .1) in
       let p4 = first-passed d 3 _ (p3 .1) in
       let p5 = first-passed e 4 _ (p4 .1) in
       let p6 = first-passed f 5 _ (p5 .1) in
-      record { modes = p1 .0; factor = p2 .0; lanes = p3 .0; frames = p4 .0; rate = p5 .0; counts = p6 .0 }
+      let p7 = first-passed g 6 _ (p6 .1) in
+      let p8 = first-passed h 7 _ (p7 .1) in
+      record {
+        numbers = record { modes = p1 .0; factor = p2 .0; lanes = p3 .0; frames = p4 .0; rate = p5 .0; counts = p6 .0 };
+        read = p7 .0;
+        written = p8 .0;
+      }
+
+  pub numbers-passed : firstOf (numberLines a b c d e f) ≡ 0 → Numbers
+  unfolding firstOf
+  numbers-passed z = no-line false false z .numbers
 
 -- the number by lines 1 to 6, and where none of them holds by lines 7 and 8, as code goes through the table
 abbrev pub thenLengths : ℕ → Bool → Bool → ℕ
@@ -62,14 +78,6 @@ whole-table false false false false false true g h = refl
 whole-table false false false false false false g h = refl
 
 -- ---- the lines
-
-pub good-mode : (mode : ℕ) → badMode mode ≡ false → mode ≤ 69
-good-mode mode e = ltb-false 69 mode e
-
-pub good-modes : (mode0 mode1 : ℕ) → badModes mode0 mode1 ≡ false → (mode0 ≤ 69) × (mode1 ≤ 69)
-good-modes mode0 mode1 e =
-    let p = or-false (badMode mode0) (badMode mode1) e in
-    (good-mode mode0 (p .0), good-mode mode1 (p .1))
 
 -- what holds of the four factors
 pub the-factor : (P : ℕ → Type 0) → P 1 → P 2 → P 4 → P 8 → (factor : ℕ) → badFactor factor ≡ false → P factor

@@ -2,7 +2,7 @@
 -- too short. Definitions only.
 use mathlib.Core.Path.{_≡_}
 use mathlib.Core.Bool.{Bool, not, _||_, _&&_}
-use Prim.Native.Nat.{ℕ, _+_, _*_, _/_, _≤_}
+use Prim.Native.Nat.{ℕ, _+_, _-_, _*_, _/_, _≤_}
 use lib.Dec.{ltb, eqb}
 use Rattle.limits.specs.declared.lengths.ControlLengths.{ControlLengths}
 
@@ -12,7 +12,7 @@ subBlock = 32
 
 -- the sub-blocks of a block, the last of which may be shorter: the rows of each prepared span
 unfoldable pub spansOf : ℕ → ℕ
-spansOf frames = (frames + 31) / subBlock
+spansOf frames = (frames + (subBlock - 1)) / subBlock
 
 -- ---- lengths
 

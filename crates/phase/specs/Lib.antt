@@ -1,3 +1,4 @@
+-- The definitions that contracts cite. Their laws are in proofs/.
 pub mod Edge
 pub mod Quantise
 pub mod Map

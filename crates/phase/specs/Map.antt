@@ -8,7 +8,6 @@ use lib.Ieee.{Float, nan}
 use Rattle.floats.specs.F32.{_⊕_, _⊖_, _⊗_, _⊘_, bits, 0f, 1f, 2f, half, quarter, tau}
 use Rattle.floats.specs.Steps.{_>>=_}
 use Rattle.floats.specs.Floor.{floorOf}
-use Rattle.floats.specs.Exp2.{exp2Of}
 use Rattle.lanes.specs.Lane.{mulAdd, minOf, maxOf}
 use Rattle.lanes.specs.Maths.{aboveOf, pickOf, clampOf, smoothstepOf, sinCycles, cosCycles, atanOf}
 use Rattle.lanes.specs.Word.{addWords, signedOf, toWord, lookupOf}
@@ -19,12 +18,13 @@ use Rattle.reads.specs.Reads.{emptyOf, weightedOf, pushOf, pushPair}
 use Rattle.slope.specs.Strengths.{leanMax, pulseMax, pinchStrength, leanStrength}
 use Rattle.phase.specs.declared.map.Slot.{Slot}
 use Rattle.phase.specs.Edge.{frac1pi, unitOf, wrapOf, smoothBox, leanOffset, remapOf}
+use Rattle.phase.specs.Power.{ratioOf}
 use Rattle.phase.specs.Quantise.{quantiseOf}
 
--- Mode::Sync; 4 is SYNC_MAX_RATIO.log2()
+-- Mode::Sync
 unfoldable pub syncMap : Float → Float → Float → ℕ → Float → ReadList → ReadList
 syncMap character a h word gain out = do
-  ratio ← exp2Of (a ⊗ bits 0x4080_0000)
+  ratio ← ratioOf a
   t ← signedOf word
   after ← toWord (ratio ⊗ t)
   whole ← toWord ratio

@@ -5,21 +5,20 @@ use Rattle.floats.specs.F32.{_⊕_, _⊖_, _⊗_, _⊘_, bits, 0f, 1f, 2f, half
 use Rattle.floats.specs.Steps.{_>>=_}
 use Rattle.floats.specs.Floor.{floorOf}
 use Rattle.floats.specs.Sign.{absOf}
-use Rattle.floats.specs.Exp2.{exp2Of}
 use Rattle.lanes.specs.Lane.{mulAdd, minOf}
 use Rattle.lanes.specs.Maths.{aboveOf, pickOf, clampOf, smoothstepOf}
 use Rattle.lanes.specs.Word.{signedOf, toWord}
 use Rattle.reads.specs.declared.lists.ReadList.{ReadList}
+use Rattle.phase.specs.Power.{stepCount}
 use Rattle.reads.specs.Reads.{pushPair}
 use Rattle.phase.specs.declared.quantise.Steps.{Steps}
 use Rattle.phase.specs.declared.quantise.Line.{Line}
 use Rattle.phase.specs.declared.quantise.Edge.{Edge}
 
--- 10 is (QUANTISE_MAX_STEPS / QUANTISE_MIN_STEPS).log2(), 2 is QUANTISE_MIN_STEPS; the last number is 0.499
+-- the last number is 0.499
 unfoldable pub stepsOf : Float → Float → Steps
 stepsOf a h = do
-  power ← exp2Of ((1f ⊖ a) ⊗ bits 0x4120_0000)
-  steps ← power ⊗ 2f
+  steps ← stepCount a
   step ← 1f ⊘ steps
   toward ← clampOf (h ⊗ 2f ⊗ steps ⊖ 1f) 0f 1f
   h' ← minOf h (step ⊗ bits 0x3eff_7cee)

@@ -16,7 +16,7 @@ ghost use Rattle.floats.specs.Sign.{absOf, signBit};
 ghost use Rattle.floats.specs.Sqrt.{sqrtOf};
 ghost use Rattle.lanes.specs.Lane.{maxOf, minOf, mulAdd};
 ghost use Rattle.lanes.specs.Maths.{aboveOf, atanOf, clampOf, cosCycles, lnOf, pickOf, signOf, sinCycles, smoothstepOf, tanOf};
-ghost use Rattle.lanes.specs.Word.{addWords, lookupOf, pickWord, signedOf, toWord};
+ghost use Rattle.lanes.specs.Word.{addWords, pickWord, signedOf, toWord};
 ghost use Rattle.probe.specs.Leaves.{anyWord, lookupOrZero, powersLeaf, powersLeafAt};
 ghost use Rattle.probe.specs.Runs.{Ran};
 

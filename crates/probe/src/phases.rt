@@ -6,7 +6,7 @@ use phase::Slot;
 use reads::LaneReads;
 use reads::ReadList;
 ghost use mathlib.Core.Path.{_≡_};
-ghost use Prim.Native.Nat.{min, _<_, _≤_};
+ghost use Prim.Native.Nat.{_<_, _≤_};
 ghost use lib.ListN.{length};
 ghost use Rattle.floats.specs.Exp2.{entries};
 ghost use Rattle.curve.specs.Curve.{valueOf, steepestOf};

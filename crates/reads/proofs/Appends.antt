@@ -6,8 +6,6 @@ use lib.Ieee.{Float}
 use Rattle.floats.specs.Steps.{_>>=_, if_then_else_}
 use Rattle.lanes.specs.Lane.{anyOf}
 use Rattle.reads.specs.declared.lists.ReadList.{ReadList}
-use Rattle.reads.specs.declared.branches.Branches.{Branches}
-use Rattle.reads.specs.Reads.{weightedOf, pushOf}
 use Rattle.reads.specs.Branches.{appended, kindOf, Makes, pushed, pushedWeighted, pushedBoth}
 
 pub one-made : (w : ℕ) (g : Float) (v : ℕ) (k : Float) → Makes (record { word0 = w; gain0 = g; word1 = v; gain1 = k; kind = 0 }) (pushed w g)

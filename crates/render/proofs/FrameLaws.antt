@@ -19,10 +19,10 @@ use Rattle.voice.specs.SumRun.{summedOf}
 use Rattle.controls.specs.Controls.{Controls, lentOf, controlAt}
 use Rattle.shaper.specs.declared.settings.Settings.{Settings}
 use Rattle.shaper.specs.Lane.{control0At, control1At, readsAt, shapedAt}
-use Rattle.render.specs.declared.cells.BlockSettings.{BlockSettings}
-use Rattle.render.specs.declared.cells.Voice.{Voice}
-use Rattle.render.specs.declared.cells.Stepped.{Stepped}
-use Rattle.render.specs.declared.cells.HostFrame.{HostFrame}
+use Rattle.render.specs.declared.state.BlockSettings.{BlockSettings}
+use Rattle.render.specs.declared.state.Voice.{Voice}
+use Rattle.render.specs.declared.state.Stepped.{Stepped}
+use Rattle.render.specs.declared.state.HostFrame.{HostFrame}
 use Rattle.render.specs.Lane.{Lent, Inputs, inputsOf, stepAt, voiceAfter, sampleAt}
 use Rattle.render.specs.Frames.{frameOf, driveAt, hostAt, frameAt, Powered, Cut, Frames, Ran}
 use Rattle.render.proofs.InputLaws.{inputs-controls, inputs-inner, inputs-curve, inputs-cycle, inputs-words, inputs-steps}

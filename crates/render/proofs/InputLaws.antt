@@ -16,7 +16,7 @@ use Rattle.controls.specs.Controls.{controlsOf}
 use Rattle.controls.specs.Places.{Spot}
 use Rattle.shaper.specs.declared.settings.Settings.{Settings}
 use Rattle.shaper.specs.declared.settings.Range.{Range}
-use Rattle.render.specs.declared.cells.BlockSettings.{BlockSettings}
+use Rattle.render.specs.declared.state.BlockSettings.{BlockSettings}
 use Rattle.render.specs.Lane.{Lent, inputsOf}
 use Rattle.render.specs.Promises.{Limits, Readable}
 use Rattle.render.specs.Frames.{Hosted, Framed, Room}

@@ -9,29 +9,28 @@ use lib.ListN.{length, getD, set}
 use lib.Ieee.{Float, nan}
 use Rattle.floats.specs.Steps.{_>>=_, left}
 use Rattle.grid.specs.Functions.{span}
-use Rattle.grid.specs.Cells.{col, column, columns}
+use Rattle.grid.specs.Cells.{col, columns}
 use Rattle.grid.specs.Lanes.{Each}
 use Rattle.grid.proofs.FunctionLaws.{span-by, span-in, span-above, span-none, span-more}
 use Rattle.grid.proofs.CellLaws.{col-at, col-set, col-set-other, getD-column}
-use Rattle.grid.proofs.EachLaws.{each-one, each-same, one-lane, one-others}
+use Rattle.grid.proofs.EachLaws.{each-one, one-lane, one-others}
 use Rattle.grid.proofs.Index.{row-in}
 use Rattle.reads.specs.Reads.{oneRead, cycleAt, readSum}
 use Rattle.wave.specs.Slot.{inWave}
 use Rattle.voice.specs.PhaseRun.{inPhase, readsOf}
 use Rattle.voice.specs.WaveRun.{tracks, shapedOf}
 use Rattle.voice.proofs.NotWave.{not-wave}
-use Rattle.shaper.specs.declared.settings.Settings.{Settings}
 use Rattle.shaper.specs.declared.settings.Range.{Range}
 use Rattle.shaper.specs.Lane.{readsAt, shapedAt}
-use Rattle.render.specs.declared.cells.BlockSettings.{BlockSettings}
-use Rattle.render.specs.declared.cells.Voice.{Voice}
-use Rattle.render.specs.declared.cells.Stepped.{Stepped}
+use Rattle.render.specs.declared.state.BlockSettings.{BlockSettings}
+use Rattle.render.specs.declared.state.Voice.{Voice}
+use Rattle.render.specs.declared.state.Stepped.{Stepped}
 use Rattle.render.specs.Lane.{Lent, Inputs, inputsOf, stepAt, voiceAfter, sampleAt, firstFrame, frameCount}
 use Rattle.render.specs.Promises.{Limits, Readable}
 use Rattle.render.specs.Frames.{Cut, Frames}
 use Rattle.render.specs.Plain.{isPlain, cycleRead, Unshaped}
 use Rattle.render.proofs.InputLaws.{inputs-cycle, inputs-words}
-use Rattle.render.proofs.VoiceLaws.{voice-none, sample-is}
+use Rattle.render.proofs.VoiceLaws.{sample-is}
 
 -- ---- one frame
 

@@ -3,8 +3,8 @@ use mathlib.Core.Path.{_≡_, refl, sym, ap₂}
 use Prim.Native.Nat.{ℕ, zero, suc, _+_}
 use native.Mathlib.Nat.{add-assoc, add-zero, add-suc}
 use native.Mathlib.Numerals.{add-one}
-use Rattle.render.specs.declared.cells.BlockSettings.{BlockSettings}
-use Rattle.render.specs.declared.cells.Voice.{Voice}
+use Rattle.render.specs.declared.state.BlockSettings.{BlockSettings}
+use Rattle.render.specs.declared.state.Voice.{Voice}
 use Rattle.render.specs.Lane.{Inputs, stepAt, voiceAfter, sampleAt}
 
 module _ (b : BlockSettings) (i : Inputs) (q : ℕ) (v : Voice) where

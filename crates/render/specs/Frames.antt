@@ -20,11 +20,11 @@ use Rattle.voice.specs.Power.{powerOf}
 use Rattle.controls.specs.Controls.{isGiven, amountAt, heardAt}
 use Rattle.controls.specs.Places.{Spot}
 use Rattle.shaper.specs.declared.settings.Settings.{Settings}
-use Rattle.render.specs.declared.cells.BlockSettings.{BlockSettings}
-use Rattle.render.specs.declared.cells.Voice.{Voice}
-use Rattle.render.specs.declared.cells.Stepped.{Stepped}
-use Rattle.render.specs.declared.cells.Drive.{Drive}
-use Rattle.render.specs.declared.cells.HostFrame.{HostFrame}
+use Rattle.render.specs.declared.state.BlockSettings.{BlockSettings}
+use Rattle.render.specs.declared.state.Voice.{Voice}
+use Rattle.render.specs.declared.state.Stepped.{Stepped}
+use Rattle.render.specs.declared.state.Drive.{Drive}
+use Rattle.render.specs.declared.state.HostFrame.{HostFrame}
 use Rattle.render.specs.Lane.{Inputs, voiceAfter, sampleAt}
 
 -- one rendered frame, from what drives the slots, the prepared slope, the phase word and its step

@@ -8,15 +8,13 @@ use Rattle.floats.specs.Steps.{_>>=_}
 use Rattle.grid.specs.Cells.{column}
 use Rattle.limits.specs.Lengths.{spansOf, curveLength, cycleLength}
 use Rattle.reads.specs.Reads.{readSum}
-use Rattle.voice.specs.declared.phase_run.Reads.{Reads}
-use Rattle.voice.specs.declared.wave_run.Shaped.{Shaped}
-use Rattle.controls.specs.Controls.{Controls, ControlBuffers, controlsOf}
+use Rattle.controls.specs.Controls.{Controls, ControlBuffers}
 use Rattle.shaper.specs.declared.settings.Settings.{Settings}
 use Rattle.shaper.specs.declared.settings.Range.{Range}
-use Rattle.shaper.specs.Lane.{readsAt, shapedAt, pair0, pair1}
-use Rattle.render.specs.declared.cells.BlockSettings.{BlockSettings}
-use Rattle.render.specs.declared.cells.Voice.{Voice}
-use Rattle.render.specs.declared.cells.Stepped.{Stepped}
+use Rattle.shaper.specs.Lane.{laneControls, readsAt, shapedAt, pair0, pair1}
+use Rattle.render.specs.declared.state.BlockSettings.{BlockSettings}
+use Rattle.render.specs.declared.state.Voice.{Voice}
+use Rattle.render.specs.declared.state.Stepped.{Stepped}
 
 -- all buffers that a block run is lent to read
 pub record Lent : Type 0 where
@@ -40,7 +38,7 @@ pub record Inputs : Type 0 where
 unfoldable pub inputsOf : Settings → Lent → ℕ → Inputs
 inputsOf s r lane =
     record {
-      controls = controlsOf (s .lanes) lane (s .frames) (r .controls);
+      controls = laneControls s (r .controls) lane;
       inner = column nan (s .lanes) lane (spansOf (s .frames)) (r .inner);
       words = column 0 (s .lanes) lane (s .frames * s .factor) (r .words);
       steps = column 0 (s .lanes) lane (s .frames * s .factor) (r .steps);

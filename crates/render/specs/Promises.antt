@@ -7,10 +7,10 @@ use lib.Ieee.{Float}
 use Rattle.limits.specs.Lengths.{renderedLength, spanLength, curveLength, cycleLength, ControlsHeld}
 use Rattle.controls.specs.Controls.{controlBuffers, controlLengths}
 use Rattle.halfband.specs.Floats.{designOf}
-use Rattle.halfband.specs.Refusal.{stagesOf}
+use Rattle.halfband.specs.Halfband.{stagesOf}
 use Rattle.shaper.specs.declared.settings.Settings.{Settings}
 use Rattle.shaper.specs.declared.settings.Range.{Range}
-use Rattle.render.specs.declared.cells.BlockSettings.{BlockSettings}
+use Rattle.render.specs.declared.state.BlockSettings.{BlockSettings}
 use Rattle.render.specs.Lane.{Lent}
 
 -- the buffers by their lists

@@ -1,5 +1,5 @@
 // What drives a slot at a host frame.
-use crate::cells::Drive;
+use crate::state::Drive;
 use controls::amount_at;
 use controls::percent;
 use voice::power_of;

@@ -1,7 +1,7 @@
 // One rendered frame of one lane.
-use crate::cells::HostFrame;
-use crate::cells::Stepped;
-use crate::cells::Voice;
+use crate::state::HostFrame;
+use crate::state::Stepped;
+use crate::state::Voice;
 use controls::heard_at;
 use grid::place;
 use shaper::Settings;

@@ -1,11 +1,11 @@
 // The rendered frames of a range of one lane.
-use crate::cells::BlockSettings;
-use crate::cells::Drive;
-use crate::cells::Voice;
 use crate::drives::still_drive;
 use crate::host::render_host;
 use crate::plain::is_plain;
 use crate::plain::read_lane;
+use crate::state::BlockSettings;
+use crate::state::Drive;
+use crate::state::Voice;
 use shaper::Range;
 use voice::fm_scale;
 ghost use mathlib.Core.Path.{_≡_};

@@ -1,9 +1,9 @@
 // The rendered frames of one host frame of one lane.
-use crate::cells::Drive;
-use crate::cells::HostFrame;
-use crate::cells::Voice;
 use crate::drives::drive_at;
 use crate::frame::frame_at;
+use crate::state::Drive;
+use crate::state::HostFrame;
+use crate::state::Voice;
 use grid::place;
 use limits::SUB_BLOCK;
 use shaper::Settings;

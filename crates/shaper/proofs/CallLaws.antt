@@ -16,8 +16,8 @@ use Rattle.shaper.specs.declared.settings.Settings.{Settings}
 use Rattle.shaper.specs.declared.settings.Range.{Range}
 use Rattle.shaper.specs.declared.single.ReadsAnswer.{ReadsAnswer}
 use Rattle.shaper.specs.Refusal.{readsRefusal, sampleRefusal}
-use Rattle.shaper.specs.ReadsCall.{noReads, readsTaken, ReadsCall}
-use Rattle.shaper.specs.SampleCall.{sampleTaken, SampleCall}
+use Rattle.shaper.specs.ReadsCall.{noReads, readsFrom, ReadsCall}
+use Rattle.shaper.specs.SampleCall.{sampleFrom, SampleCall}
 use Rattle.shaper.specs.Taken.{ReadsTaken, SampleTaken}
 use Rattle.shaper.proofs.RefusalLaws.{reads-accepted, sample-accepted}
 
@@ -40,7 +40,7 @@ module _ (s : Settings) (rate active lane : ℕ) (r : Range) (frame word step : 
       }
 
   pub reads-done : {fm' : List Float} {reads : LaneReads} → readsNumber ≡ 0
-      → ReadsTaken s lane (readsTaken s rate lane (r .first + frame / s .factor) (frame % s .factor) word step l curve inner fm last) fm fm' reads → length fm' ≡ length fm
+      → ReadsTaken s lane (readsFrom s rate lane (r .first + frame / s .factor) (frame % s .factor) word step l curve inner fm last) fm fm' reads → length fm' ≡ length fm
       → ReadsCall s rate active lane r frame word step l curve inner fm fm' last (record { number = 0; frames = r .count; reads = reads })
   reads-done e did size =
       record {
@@ -100,7 +100,7 @@ module _ (s : Settings) (active lane : ℕ) (r : Range) (frame step : ℕ) (x : 
       }
 
   pub sample-done : {pairs' last' : List Float} {y : Float} → sampleNumber ≡ 0
-      → SampleTaken s lane (sampleTaken s lane (r .first + frame / s .factor) (frame % s .factor) step x l pairs last) pairs last pairs' last' y
+      → SampleTaken s lane (sampleFrom s lane (r .first + frame / s .factor) (frame % s .factor) step x l pairs last) pairs last pairs' last' y
       → length pairs' ≡ length pairs → length last' ≡ length last
       → SampleCall s active lane r frame step x l pairs last pairs' last' (record { number = 0; frames = r .count; value = y })
   sample-done e did size-pairs size-last =

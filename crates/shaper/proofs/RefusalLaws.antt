@@ -7,7 +7,7 @@ use native.Mathlib.Omega.{arith}
 use Rattle.limits.specs.declared.lengths.ControlLengths.{ControlLengths}
 use Rattle.limits.specs.Lines.{firstOf, numberLines, badFactor, badLane, badRate}
 use Rattle.limits.specs.Lengths.{spanLength, curveLength, pairsLength, carryLength, lastLength, shorter, shortControls, ControlsHeld}
-use Rattle.limits.proofs.LineLaws.{thenLengths, whole-table, first-passed, or-false, good-modes, small-factor, good-lane, good-frame, good-rate}
+use Rattle.limits.proofs.LineLaws.{thenLengths, whole-table, no-line, or-false, small-factor, good-lane, good-frame, good-rate}
 use Rattle.limits.proofs.LengthLaws.{long-enough, controls-held}
 use Rattle.shaper.specs.declared.settings.Settings.{Settings}
 use Rattle.shaper.specs.declared.settings.Range.{Range}
@@ -38,9 +38,6 @@ module _ (s : Settings) (active lane : ℕ) (r : Range) (frame : ℕ) (l : Contr
 -- ---- lines 1 to 4 and 7, which both calls have
 
 pub record Accepted (s : Settings) (active lane : ℕ) (r : Range) (frame : ℕ) (l : ControlLengths) : Type 0 where
-  pub mode0 : s .slot0 .mode ≤ 69
-  pub mode1 : s .slot1 .mode ≤ 69
-  pub factor : badFactor (s .factor) ≡ false
   pub least : 1 ≤ s .factor
   pub most : s .factor ≤ 8
   pub lanes : 1 ≤ s .lanes
@@ -52,18 +49,14 @@ pub record Accepted (s : Settings) (active lane : ℕ) (r : Range) (frame : ℕ)
   pub rendered : frame < r .count * s .factor
   pub controls : ControlsHeld (s .frames) (s .lanes) l
 
-accepted : (s : Settings) (active lane : ℕ) (r : Range) (frame : ℕ) (l : ControlLengths) → modeLine s ≡ false → badFactor (s .factor) ≡ false
+accepted : (s : Settings) (active lane : ℕ) (r : Range) (frame : ℕ) (l : ControlLengths) → badFactor (s .factor) ≡ false
     → badLane (s .lanes) active lane ≡ false → frameLine s r frame ≡ false → shortControls (s .frames) (s .lanes) l ≡ false
     → Accepted s active lane r frame l
-accepted s active lane r frame l e1 e2 e3 e4 e7 =
-    let modes = good-modes (s .slot0 .mode) (s .slot1 .mode) e1 in
+accepted s active lane r frame l e2 e3 e4 e7 =
     let factor = small-factor (s .factor) e2 in
     let lanes = good-lane (s .lanes) active lane e3 in
     let frames = good-frame (s .factor) (s .frames) (r .first) (r .count) frame e4 in
     record {
-      mode0 = modes .0;
-      mode1 = modes .1;
-      factor = e2;
       least = factor .0;
       most = factor .1;
       lanes = lanes .0;
@@ -109,7 +102,6 @@ module _ {s : Settings} {active lane : ℕ} {r : Range} {frame : ℕ} {l : Contr
 
 pub record ReadsAccepted (s : Settings) (rate active lane : ℕ) (r : Range) (frame : ℕ) (l : ControlLengths) (curve inner fm last : ℕ) : Type 0 where
   pub accepted : Accepted s active lane r frame l
-  pub low : 8000 ≤ rate
   pub high : rate ≤ 192000
   pub entries : curveLength ≤ curve
   pub spans : spanLength (s .frames) (s .lanes) ≤ inner
@@ -118,23 +110,17 @@ pub record ReadsAccepted (s : Settings) (rate active lane : ℕ) (r : Range) (fr
 
 pub reads-accepted : (s : Settings) (rate active lane : ℕ) (r : Range) (frame : ℕ) (l : ControlLengths) (curve inner fm last : ℕ)
     → readsRefusal s rate active lane r frame l curve inner fm last ≡ 0 → ReadsAccepted s rate active lane r frame l curve inner fm last
-unfolding readsRefusal
+unfolding readsRefusal firstOf
 reads-accepted s rate active lane r frame l curve inner fm last e =
-    let p1 = first-passed (modeLine s) 0 _ e in
-    let p2 = first-passed (badFactor (s .factor)) 1 _ (p1 .1) in
-    let p3 = first-passed (badLane (s .lanes) active lane) 2 _ (p2 .1) in
-    let p4 = first-passed (frameLine s r frame) 3 _ (p3 .1) in
-    let p5 = first-passed (badRate rate) 4 _ (p4 .1) in
-    let p7 = first-passed (readsShort s l curve inner) 6 _ (p5 .1) in
-    let p8 = first-passed (carryShort (s .lanes) fm last) 7 _ (p7 .1) in
-    let rates = good-rate rate (p5 .0) in
-    let read = or-false (shortControls (s .frames) (s .lanes) l || shorter curveLength curve) (shorter (spanLength (s .frames) (s .lanes)) inner) (p7 .0) in
+    let p =
+    no-line (modeLine s) (badFactor (s .factor)) (badLane (s .lanes) active lane) (frameLine s r frame) (badRate rate) false
+    (readsShort s l curve inner) (carryShort (s .lanes) fm last) e in
+    let read = or-false (shortControls (s .frames) (s .lanes) l || shorter curveLength curve) (shorter (spanLength (s .frames) (s .lanes)) inner) (p .read) in
     let controls = or-false (shortControls (s .frames) (s .lanes) l) (shorter curveLength curve) (read .0) in
-    let written = or-false (shorter (carryLength (s .lanes)) fm) (shorter (lastLength (s .lanes)) last) (p8 .0) in
+    let written = or-false (shorter (carryLength (s .lanes)) fm) (shorter (lastLength (s .lanes)) last) (p .written) in
     record {
-      accepted = accepted s active lane r frame l (p1 .0) (p2 .0) (p3 .0) (p4 .0) (controls .0);
-      low = rates .0;
-      high = rates .1;
+      accepted = accepted s active lane r frame l (p .numbers .factor) (p .numbers .lanes) (p .numbers .frames) (controls .0);
+      high = good-rate rate (p .numbers .rate) .1;
       entries = long-enough curveLength curve (controls .1);
       spans = long-enough (spanLength (s .frames) (s .lanes)) inner (read .1);
       carry = long-enough (carryLength (s .lanes)) fm (written .0);
@@ -161,17 +147,14 @@ pub record SampleAccepted (s : Settings) (active lane : ℕ) (r : Range) (frame 
 
 pub sample-accepted : (s : Settings) (active lane : ℕ) (r : Range) (frame : ℕ) (l : ControlLengths) (pairs last : ℕ)
     → sampleRefusal s active lane r frame l pairs last ≡ 0 → SampleAccepted s active lane r frame l pairs last
-unfolding sampleRefusal
+unfolding sampleRefusal firstOf
 sample-accepted s active lane r frame l pairs last e =
-    let p1 = first-passed (modeLine s) 0 _ e in
-    let p2 = first-passed (badFactor (s .factor)) 1 _ (p1 .1) in
-    let p3 = first-passed (badLane (s .lanes) active lane) 2 _ (p2 .1) in
-    let p4 = first-passed (frameLine s r frame) 3 _ (p3 .1) in
-    let p7 = first-passed (shortControls (s .frames) (s .lanes) l) 6 _ (p4 .1) in
-    let p8 = first-passed (pairsShort (s .lanes) pairs last) 7 _ (p7 .1) in
-    let written = or-false (shorter (pairsLength (s .lanes)) pairs) (shorter (lastLength (s .lanes)) last) (p8 .0) in
+    let p =
+    no-line (modeLine s) (badFactor (s .factor)) (badLane (s .lanes) active lane) (frameLine s r frame) false false
+    (shortControls (s .frames) (s .lanes) l) (pairsShort (s .lanes) pairs last) e in
+    let written = or-false (shorter (pairsLength (s .lanes)) pairs) (shorter (lastLength (s .lanes)) last) (p .written) in
     record {
-      accepted = accepted s active lane r frame l (p1 .0) (p2 .0) (p3 .0) (p4 .0) (p7 .0);
+      accepted = accepted s active lane r frame l (p .numbers .factor) (p .numbers .lanes) (p .numbers .frames) (p .read);
       cells = long-enough (pairsLength (s .lanes)) pairs (written .0);
       kept = long-enough (lastLength (s .lanes)) last (written .1);
     }

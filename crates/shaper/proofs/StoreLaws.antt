@@ -1,6 +1,5 @@
 -- The laws of a lane's state in its cells: what the stores of its FM carry, its filter pairs and `last` make of any buffer.
 -- Assumes nothing.
-use mathlib.Core.Path.{_≡_}
 use mathlib.Core.List.{List}
 use Prim.Native.Nat.{ℕ, _+_, _*_, _<_}
 use native.Mathlib.Omega.{arith}
@@ -10,8 +9,7 @@ use Rattle.grid.specs.Functions.{upd}
 use Rattle.grid.specs.Cells.{columns}
 use Rattle.grid.specs.Lanes.{Each}
 use Rattle.grid.proofs.Index.{row-in}
-use Rattle.grid.proofs.EachLaws.{each-then}
-use Rattle.grid.proofs.BufferLaws.{each-set}
+use Rattle.grid.proofs.EachLaws.{each-then, each-set}
 use Rattle.wave.specs.declared.filters.Svf.{Svf}
 use Rattle.shaper.specs.Lane.{putPairs, putCarry}
 use Rattle.shaper.specs.Taken.{Held}
@@ -30,9 +28,6 @@ last-put n lane xs v h = each-set nan n lane xs 0 v (h .inside) (cell-in h 0 (om
 abbrev pub carryStored : ℕ → ℕ → List Float → Float → Float → List Float
 carryStored n lane xs fm0 fm1 = set (set xs (0 * n + lane) fm0) (1 * n + lane) fm1
 
-pub carry-size : (n lane : ℕ) (xs : List Float) (fm0 fm1 : Float) → length (carryStored n lane xs fm0 fm1) ≡ length xs
-carry-size n lane xs fm0 fm1 = simp length-set
-
 pub carry-put : (n lane : ℕ) (xs : List Float) (fm0 fm1 : Float) → Held 2 n lane (length xs)
     → Each n lane (lane + 1) (λ _. putCarry fm0 fm1) (columns nan n xs) (columns nan n (carryStored n lane xs fm0 fm1))
 unfolding putCarry
@@ -45,9 +40,6 @@ carry-put n lane xs fm0 fm1 h =
 abbrev pub pairsStored : ℕ → ℕ → List Float → Svf → Svf → List Float
 pairsStored n lane xs p q =
     set (set (set (set xs (0 * n + lane) (p .ic1)) (1 * n + lane) (p .ic2)) (2 * n + lane) (q .ic1)) (3 * n + lane) (q .ic2)
-
-pub pairs-size : (n lane : ℕ) (xs : List Float) (p q : Svf) → length (pairsStored n lane xs p q) ≡ length xs
-pairs-size n lane xs p q = simp length-set
 
 pub pairs-put : (n lane : ℕ) (xs : List Float) (p q : Svf) → Held 4 n lane (length xs)
     → Each n lane (lane + 1) (λ _. putPairs p q) (columns nan n xs) (columns nan n (pairsStored n lane xs p q))

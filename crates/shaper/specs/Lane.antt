@@ -1,6 +1,6 @@
 -- One lane at one rendered frame, from its inputs and its state. `host` is the host frame of the block that it falls in, `sub` counts the
 -- rendered frames of a host frame. Definitions only.
-use Prim.Native.Nat.{ℕ, _/_}
+use Prim.Native.Nat.{ℕ, _+_, _/_}
 use mathlib.Core.List.{List}
 use lib.ListN.{getD}
 use lib.Ieee.{Float, nan}
@@ -13,8 +13,12 @@ use Rattle.voice.specs.declared.wave_run.Shaped.{Shaped}
 use Rattle.voice.specs.PhaseRun.{fmScale, readsOf}
 use Rattle.voice.specs.WaveRun.{shapedOf}
 use Rattle.limits.specs.Lengths.{subBlock}
-use Rattle.controls.specs.Controls.{Controls, controlAt}
+use Rattle.controls.specs.Controls.{Controls, ControlBuffers, controlsOf, controlAt}
 use Rattle.shaper.specs.declared.settings.Settings.{Settings}
+
+-- a lane's inputs in the rows that line 7 asks for
+abbrev pub laneControls : Settings → ControlBuffers → ℕ → Controls
+laneControls s b lane = controlsOf (s .lanes) lane (s .frames) b
 
 -- what drives slot 0 and slot 1. No mode of the wave stage reads `last` (voice.proofs.NotOwn), so it makes no difference that the Rust
 -- stores the raw sample there before that stage
@@ -42,12 +46,16 @@ shapedAt s c host sub step x pairs0 pairs1 last = do
 
 -- ---- a lane's state in its columns
 
--- the filter pair of slot 0 lies in rows 0 and 1, that of slot 1 in rows 2 and 3
+-- the filter pair in rows `row` and row + 1
+abbrev pub pairIn : ℕ → (ℕ → Float) → Svf
+pairIn row pairs = record { ic1 = pairs row; ic2 = pairs (row + 1) }
+
+-- that of slot 0 lies in rows 0 and 1, that of slot 1 in rows 2 and 3
 abbrev pub pair0 : (ℕ → Float) → Svf
-pair0 pairs = record { ic1 = pairs 0; ic2 = pairs 1 }
+pair0 pairs = pairIn 0 pairs
 
 abbrev pub pair1 : (ℕ → Float) → Svf
-pair1 pairs = record { ic1 = pairs 2; ic2 = pairs 3 }
+pair1 pairs = pairIn 2 pairs
 
 unfoldable pub putPairs : Svf → Svf → (ℕ → Float) → ℕ → Float
 putPairs p q pairs = upd (upd (upd (upd pairs 0 (p .ic1)) 1 (p .ic2)) 2 (q .ic1)) 3 (q .ic2)

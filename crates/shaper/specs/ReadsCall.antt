@@ -12,30 +12,26 @@ use Rattle.grid.specs.Lanes.{Each}
 use Rattle.limits.specs.Lengths.{spansOf, curveLength}
 use Rattle.reads.specs.declared.lists.LaneReads.{LaneReads}
 use Rattle.voice.specs.declared.phase_run.Reads.{Reads}
-use Rattle.controls.specs.Controls.{Controls, ControlBuffers, controlLengths, controlsOf}
+use Rattle.controls.specs.Controls.{ControlBuffers, controlLengths}
 use Rattle.shaper.specs.declared.settings.Settings.{Settings}
 use Rattle.shaper.specs.declared.settings.Range.{Range}
 use Rattle.shaper.specs.declared.single.ReadsAnswer.{ReadsAnswer}
-use Rattle.shaper.specs.Lane.{readsAt, putCarry}
+use Rattle.shaper.specs.Lane.{laneControls, readsAt, putCarry}
 use Rattle.shaper.specs.Refusal.{readsRefusal}
-
--- a lane's inputs in the rows that line 7 asks for
-abbrev pub laneControls : Settings → ControlBuffers → ℕ → Controls
-laneControls s b lane = controlsOf (s .lanes) lane (s .frames) b
 
 -- a refused list: count 0 and only zeros
 abbrev pub noReads : LaneReads
 noReads = record { phase = replicate 4 0; gain = replicate 4 0f; count = 0 }
 
 -- at rendered frame `sub` of the block's host frame `host`
-abbrev pub readsTaken : Settings → ℕ → ℕ → ℕ → ℕ → ℕ → ℕ → ControlBuffers → List Float → List Float → List Float → List Float → Reads
-readsTaken s rate lane host sub word step b curve inner fm last =
+abbrev pub readsFrom : Settings → ℕ → ℕ → ℕ → ℕ → ℕ → ℕ → ControlBuffers → List Float → List Float → List Float → List Float → Reads
+readsFrom s rate lane host sub word step b curve inner fm last =
     readsAt s rate (laneControls s b lane) (take curveLength curve) (column nan (s .lanes) lane (spansOf (s .frames)) inner) host sub word step
     (col nan (s .lanes) lane fm 0) (col nan (s .lanes) lane fm 1) (col nan (s .lanes) lane last 0)
 
 -- `frame` counts rendered frames from the range's start
 abbrev pub readsCalled : Settings → ℕ → ℕ → Range → ℕ → ℕ → ℕ → ControlBuffers → List Float → List Float → List Float → List Float → Reads
-readsCalled s rate lane r frame = readsTaken s rate lane (r .first + frame / s .factor) (frame % s .factor)
+readsCalled s rate lane r frame = readsFrom s rate lane (r .first + frame / s .factor) (frame % s .factor)
 
 -- fm and fm' are the FM carry before and after; `last` is only read
 pub record ReadsCall (s : Settings) (rate active lane : ℕ) (r : Range) (frame word step : ℕ) (b : ControlBuffers) (curve inner fm fm' last : List Float) (a : ReadsAnswer) : Type 0 where

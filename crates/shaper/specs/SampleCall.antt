@@ -15,19 +15,18 @@ use Rattle.voice.specs.declared.wave_run.Shaped.{Shaped}
 use Rattle.controls.specs.Controls.{ControlBuffers, controlLengths}
 use Rattle.shaper.specs.declared.settings.Settings.{Settings}
 use Rattle.shaper.specs.declared.settings.Range.{Range}
-use Rattle.shaper.specs.Lane.{shapedAt, pair0, pair1, putPairs}
+use Rattle.shaper.specs.Lane.{laneControls, shapedAt, pair0, pair1, putPairs}
 use Rattle.shaper.specs.Refusal.{sampleRefusal}
-use Rattle.shaper.specs.ReadsCall.{laneControls}
 
 -- at rendered frame `sub` of the block's host frame `host`
-abbrev pub sampleTaken : Settings → ℕ → ℕ → ℕ → ℕ → Float → ControlBuffers → List Float → List Float → Shaped
-sampleTaken s lane host sub step x b pairs last =
+abbrev pub sampleFrom : Settings → ℕ → ℕ → ℕ → ℕ → Float → ControlBuffers → List Float → List Float → Shaped
+sampleFrom s lane host sub step x b pairs last =
     shapedAt s (laneControls s b lane) host sub step x
     (pair0 (col nan (s .lanes) lane pairs)) (pair1 (col nan (s .lanes) lane pairs)) (col nan (s .lanes) lane last 0)
 
 -- `frame` counts rendered frames from the range's start
 abbrev pub sampleCalled : Settings → ℕ → Range → ℕ → ℕ → Float → ControlBuffers → List Float → List Float → Shaped
-sampleCalled s lane r frame = sampleTaken s lane (r .first + frame / s .factor) (frame % s .factor)
+sampleCalled s lane r frame = sampleFrom s lane (r .first + frame / s .factor) (frame % s .factor)
 
 pub record SampleCall (s : Settings) (active lane : ℕ) (r : Range) (frame step : ℕ) (x : Float) (b : ControlBuffers) (pairs last pairs' last' : List Float) (a : Valued) : Type 0 where
   pub number : a .number ≡ sampleRefusal s active lane r frame (controlLengths b) (length pairs) (length last)

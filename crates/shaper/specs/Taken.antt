@@ -10,7 +10,6 @@ use Rattle.grid.specs.Lanes.{Each}
 use Rattle.limits.specs.declared.lengths.ControlLengths.{ControlLengths}
 use Rattle.limits.specs.Lengths.{curveLength, spanLength, ControlsHeld}
 use Rattle.reads.specs.declared.lists.LaneReads.{LaneReads}
-use Rattle.wave.specs.declared.filters.Svf.{Svf}
 use Rattle.voice.specs.declared.phase_run.Reads.{Reads}
 use Rattle.voice.specs.declared.wave_run.Shaped.{Shaped}
 use Rattle.controls.specs.Places.{Spot}
@@ -39,10 +38,6 @@ pub record Fed (s : Settings) (rate : ℕ) (l : ControlLengths) (lane host curve
   pub spans : spanLength (s .frames) (s .lanes) ≤ inner
 
 -- ---- what is promised
-
--- the filter pair in rows `row` and row + 1
-abbrev pub pairIn : ℕ → (ℕ → Float) → Svf
-pairIn row pairs = record { ic1 = pairs row; ic2 = pairs (row + 1) }
 
 -- a read list, and the FM carry stored
 pub record ReadsTaken (s : Settings) (lane : ℕ) (called : Reads) (fm fm' : List Float) (reads : LaneReads) : Type 0 where

@@ -9,8 +9,8 @@ ghost use lib.Ieee.{nan};
 ghost use Rattle.grid.specs.Functions.{upd};
 ghost use Rattle.grid.specs.Cells.{col, columns};
 ghost use Rattle.grid.specs.Lanes.{Each};
-ghost use Rattle.shaper.specs.Lane.{putPairs, putCarry};
-ghost use Rattle.shaper.specs.Taken.{Held, pairIn};
+ghost use Rattle.shaper.specs.Lane.{pairIn, putPairs, putCarry};
+ghost use Rattle.shaper.specs.Taken.{Held};
 
 // The filter pair in rows `row` and `row` + 1.
 pub fn load_pair(pairs: &[f32], row: usize, n: usize, lane: usize) -> Svf

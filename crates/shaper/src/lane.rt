@@ -20,8 +20,7 @@ ghost use Rattle.floats.specs.Exp2.{entries};
 ghost use Rattle.grid.specs.Cells.{column};
 ghost use Rattle.limits.specs.Lengths.{spansOf, curveLength};
 ghost use Rattle.controls.specs.Controls.{controlBuffers, controlLengths};
-ghost use Rattle.shaper.specs.Lane.{readsAt, shapedAt};
-ghost use Rattle.shaper.specs.ReadsCall.{laneControls};
+ghost use Rattle.shaper.specs.Lane.{laneControls, readsAt, shapedAt};
 ghost use Rattle.shaper.specs.Taken.{Driven, Fed};
 
 // The read list, and the FM carry after it.

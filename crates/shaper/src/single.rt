@@ -16,8 +16,8 @@ use reads::LaneReads;
 ghost use mathlib.Core.Path.{_≡_};
 ghost use lib.ListN.{length};
 ghost use Rattle.controls.specs.Controls.{controlBuffers, controlLengths};
-ghost use Rattle.shaper.specs.ReadsCall.{noReads, readsTaken, ReadsCall};
-ghost use Rattle.shaper.specs.SampleCall.{sampleTaken, SampleCall};
+ghost use Rattle.shaper.specs.ReadsCall.{noReads, readsFrom, ReadsCall};
+ghost use Rattle.shaper.specs.SampleCall.{sampleFrom, SampleCall};
 ghost use Rattle.shaper.specs.Taken.{Held, Driven, Fed, ReadsTaken, SampleTaken};
 
 // The number of a refusal, 0 where there is none, the range's frames, and the list.
@@ -64,7 +64,7 @@ fn reads_taken(
         lane host (length (now curve)) (length (now inner)) ⌝
         ∗ ⌜ Held 2 (s .lanes) lane (length (now fm)) ⌝ ∗ ⌜ Held 1 (s .lanes) lane (length (now last)) ⌝ }
     ensures { λ a. ⌜ ReadsTaken s lane
-        (readsTaken s rate lane host sub word step
+        (readsFrom s rate lane host sub word step
         (controlBuffers (now (base0 .entry)) (now (base1 .entry)) (now (mod0 .entry)) (now (mod1 .entry)) (now (source0 .entry)) (now (source1 .entry)))
         (now (curve .entry)) (now (inner .entry)) (now (fm .entry)) (now (last .entry)))
         (now (fm .entry)) (now (fm .exit)) a ⌝ }
@@ -201,7 +201,7 @@ fn sample_taken(
         (controlLengths (controlBuffers (now base0) (now base1) (now mod0) (now mod1) (now source0) (now source1))) lane host ⌝
         ∗ ⌜ Held 4 (s .lanes) lane (length (now pairs)) ⌝ ∗ ⌜ Held 1 (s .lanes) lane (length (now last)) ⌝ }
     ensures { λ y. ⌜ SampleTaken s lane
-        (sampleTaken s lane host sub step x
+        (sampleFrom s lane host sub step x
         (controlBuffers (now (base0 .entry)) (now (base1 .entry)) (now (mod0 .entry)) (now (mod1 .entry)) (now (source0 .entry)) (now (source1 .entry)))
         (now (pairs .entry)) (now (last .entry)))
         (now (pairs .entry)) (now (last .entry)) (now (pairs .exit)) (now (last .exit)) y ⌝ }

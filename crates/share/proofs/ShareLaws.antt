@@ -14,16 +14,15 @@ use Rattle.grid.proofs.FunctionLaws.{upto-in, upto-out, span-by, span-none, spa
 use Rattle.grid.proofs.CellLaws.{col-at, col-set, col-set-other}
 use Rattle.grid.proofs.EachLaws.{each-one, one-lane, one-others}
 use Rattle.grid.proofs.Index.{row-in}
-use Rattle.halfband.specs.Halfband.{View, view, views, cascade}
+use Rattle.halfband.specs.Halfband.{View, view, views, cascade, stagesOf}
 use Rattle.halfband.specs.Floats.{floats, designOf}
-use Rattle.halfband.specs.Refusal.{stagesOf}
 use Rattle.halfband.specs.Promises.{Taken}
 use Rattle.halfband.specs.Decimated.{lanePart}
 use Rattle.shaper.specs.declared.settings.Settings.{Settings}
 use Rattle.shaper.specs.declared.settings.Range.{Range}
 use Rattle.shaper.specs.Taken.{Held}
-use Rattle.render.specs.declared.cells.BlockSettings.{BlockSettings}
-use Rattle.render.specs.declared.cells.Voice.{Voice}
+use Rattle.render.specs.declared.state.BlockSettings.{BlockSettings}
+use Rattle.render.specs.declared.state.Voice.{Voice}
 use Rattle.render.specs.Lane.{Lent, inputsOf, voiceOf, voiceAfter, sampleAt, firstFrame, frameCount}
 use Rattle.render.specs.Promises.{Limits, Readable}
 use Rattle.render.specs.Frames.{Cut, Frames}

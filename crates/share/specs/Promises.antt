@@ -11,8 +11,8 @@ use Rattle.limits.specs.Lengths.{hostLength, renderedLength, pairsLength, carry
 use Rattle.shaper.specs.declared.settings.Settings.{Settings}
 use Rattle.shaper.specs.declared.settings.Range.{Range}
 use Rattle.shaper.specs.Lane.{putPairs, putCarry}
-use Rattle.render.specs.declared.cells.BlockSettings.{BlockSettings}
-use Rattle.render.specs.declared.cells.Voice.{Voice}
+use Rattle.render.specs.declared.state.BlockSettings.{BlockSettings}
+use Rattle.render.specs.declared.state.Voice.{Voice}
 use Rattle.render.specs.Lane.{Lent, inputsOf}
 use Rattle.share.specs.Share.{Buffers, columnsOf, share}
 

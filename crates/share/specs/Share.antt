@@ -5,13 +5,12 @@ use mathlib.Core.List.{List}
 use lib.Ieee.{Float, nan}
 use Rattle.grid.specs.Functions.{upd, upto, span}
 use Rattle.grid.specs.Cells.{col, blk}
-use Rattle.halfband.specs.Halfband.{View, cascade}
+use Rattle.halfband.specs.Halfband.{cascade, stagesOf}
 use Rattle.halfband.specs.Floats.{floats, designOf}
-use Rattle.halfband.specs.Refusal.{stagesOf}
 use Rattle.shaper.specs.declared.settings.Range.{Range}
 use Rattle.shaper.specs.Lane.{putPairs, putCarry}
-use Rattle.render.specs.declared.cells.BlockSettings.{BlockSettings}
-use Rattle.render.specs.declared.cells.Voice.{Voice}
+use Rattle.render.specs.declared.state.BlockSettings.{BlockSettings}
+use Rattle.render.specs.declared.state.Voice.{Voice}
 use Rattle.render.specs.Lane.{Inputs, voiceOf, voiceAfter, sampleAt, firstFrame, frameCount}
 
 -- the six buffers that a block run writes

@@ -6,7 +6,6 @@ pub mod strengths;
 pub use steepest::stretch;
 pub use steepest::stretch_of;
 pub use strengths::LEAN_MAX;
-pub use strengths::PINCH_MAX;
 pub use strengths::PULSE_MAX;
 pub use strengths::lean_strength;
 pub use strengths::pinch_strength;

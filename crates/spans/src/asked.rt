@@ -3,6 +3,7 @@ use crate::refusal::stretch_refused;
 use floats::nearest_u32;
 use grid::place;
 use lanes::max;
+use limits::SUB_BLOCK;
 use limits::Valued;
 use limits::spans_of;
 ghost use mathlib.Core.Path.{_≡_};
@@ -42,7 +43,7 @@ fn span_of(factor: u32, first: u32, frame: u32) -> usize
     requires { ⌜ (1 ≤ factor) × (first ≤ 4096) × (frame ≤ 32768) ⌝ }
     ensures { λ r. ⌜ r ≡ spanOf factor first frame ⌝ }
 {
-    ((first + frame / factor) / 32) as usize
+    (first + frame / factor) as usize / SUB_BLOCK
 }
 
 // Asked for none, it looks at its first frame.

@@ -1,13 +1,11 @@
 -- A slot that is not in the wave stage leaves sample and state. Assumes nothing.
-use Prim.Native.Nat.{ℕ}
 use mathlib.Core.Bool.{false}
-use mathlib.Core.Path.{_≡_, sym, _∙_}
+use mathlib.Core.Path.{_≡_}
 use mathlib.Core.List.{List}
 use lib.Ieee.{Float}
 use Rattle.floats.specs.Steps.{_>>=_, left}
 use Rattle.phase.specs.declared.map.Slot.{Slot}
 use Rattle.wave.specs.declared.filters.Svf.{Svf}
-use Rattle.wave.specs.declared.filters.Filtered.{Filtered}
 use Rattle.wave.specs.Slot.{inWave, settingOf, shapeOf}
 use Rattle.voice.specs.declared.control.Control.{Control}
 use Rattle.voice.specs.WaveRun.{slotOf}

@@ -50,8 +50,3 @@ module _ (scale increment : Float) where
       ≡ movedOf mode₁ control₁ scale increment (movedOf mode₀ control₀ scale increment r fm0 .list) fm1 .list
   unfolding movedOf _>>=_
   either-order mode₀ mode₁ control₀ control₁ r fm0 fm1 = in-order _ _ (offsetOf mode₀ control₀ scale increment fm0) (offsetOf mode₁ control₁ scale increment fm1) r fm0 fm1
-
-  -- and so is each slot's carry, which no list changes
-  pub carry-alone : (mode : ℕ) (control : Control) (r s : ReadList) (carry : Float) → movedOf mode control scale increment r carry .carry ≡ movedOf mode control scale increment s carry .carry
-  unfolding movedOf _>>=_
-  carry-alone mode control r s carry = same-carry _ (offsetOf mode control scale increment carry) r s carry

@@ -5,7 +5,7 @@ use mathlib.Core.Path.{_≡_, refl}
 use mathlib.Core.Bool.{Bool, true, false, _||_}
 use mathlib.Core.List.{List, [], _∷_}
 use lib.Ieee.{Float}
-use Rattle.floats.specs.F32.{_⊗_, 2f, half}
+use Rattle.floats.specs.F32.{_⊗_}
 use Rattle.floats.specs.Steps.{_>>=_, if_then_else_, left}
 use Rattle.lanes.specs.Word.{addWords}
 use Rattle.reads.specs.declared.lists.ReadList.{ReadList}

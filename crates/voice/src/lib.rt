@@ -20,4 +20,3 @@ pub use sum_run::Summed;
 pub use sum_run::sum_of;
 pub use wave_run::Shaped;
 pub use wave_run::shape_of;
-pub use wave_run::tracks;

@@ -1,5 +1,5 @@
 -- `answers::reads` is safe: each list has four reads at most. Assumes nothing.
-use mathlib.Core.Path.{_≡_, sym, subst}
+use mathlib.Core.Path.{sym, subst}
 use borrow.Author.Needs.{needs}
 use Rattle.reads.proofs.Few.{Few, start-few}
 use Rattle.phase.proofs.Few.{apply-few}

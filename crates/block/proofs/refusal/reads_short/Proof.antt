@@ -5,7 +5,7 @@ use Rattle.block.proofs.refusal.reads_short.Tie as tie
 
 returns : tie.Need-returns
 returns c =
-    rw (c .short2 .ensures, c .before .short .ensures, c .before .before .lent-short .ensures)
+    rw (c .short2 .ensures, c .before .short .ensures, c .before .before .buffers-short .ensures)
 
 pub reads-short-spec : {M : Type 1} → statement M
 reads-short-spec =

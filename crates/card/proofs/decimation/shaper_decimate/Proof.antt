@@ -1,10 +1,9 @@
 -- `shaper_decimate` meets its contract. Assumes nothing.
-use mathlib.Core.Path.{_≡_, sym, _∙_}
+use mathlib.Core.Path.{sym, _∙_}
 use denote.Ref.{now}
 use borrow.Author.Needs.{needs}
 use Rattle.limits.proofs.LengthLaws.{long-enough}
 use Rattle.halfband.specs.Floats.{designsOf}
-use Rattle.halfband.specs.Decimated.{callNumber}
 use Rattle.halfband.proofs.RefusalLaws.{accepted}
 use Rattle.halfband.proofs.DecimatedLaws.{turned-down, of-slice}
 use Rattle.card.proofs.decimation.shaper_decimate.Statement.{statement}

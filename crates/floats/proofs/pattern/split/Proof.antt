@@ -4,8 +4,8 @@ use mathlib.Core.Bool.{Bool, false, _&&_}
 use Prim.Native.Nat.{ℕ, _*_, _/_, _%_}
 use native.Mathlib.Omega.{arith}
 use native.Mathlib.Nat.{mul-mod-left}
-use lib.Dec.{eqb, le→leb}
-use lib.Ieee.{binary32, toBits, nanBits, inFloat}
+use lib.Dec.{eqb}
+use lib.Ieee.{binary32, nanBits}
 use borrow.Author.Needs.{needs}
 use Rattle.floats.specs.Pattern.{splitOf}
 use Rattle.floats.proofs.Nan.{is-nan, no-nan, no-nan-T, nan-is}
@@ -34,17 +34,13 @@ mul-scale c = search needs
 float-from-bits-scale : tie.Need-float-from-bits-scale
 float-from-bits-scale c = rw clean tt
 
-int-to-float-t9 : tie.Need-int-to-float-t9
-unfolding inFloat
-int-to-float-t9 c = le→leb (toBits binary32 (c .before .before .args .x) / 8388608) 16777216 (omega (arith, bits-lt _ (c .before .before .good .0 .1)))
-
 returns : tie.Need-returns
 unfolding splitOf
 returns c = rw (is-nan _ (c .if1 .taken), nan-is)
 
 returns-2 : tie.Need-returns-2
 unfolding splitOf
-returns-2 c = rw (no-nan _ (c .before .if1 .left))
+returns-2 c = rw (no-nan _ (c .before .if1 .left), c .nearest-u32 .ensures)
 
 pub split-spec : {M : Type 1} → statement M
-split-spec = tie.close (tie.spec float-to-bits-biased sub-scale mul-scale float-from-bits-scale int-to-float-t9 returns returns-2)
+split-spec = tie.close (tie.spec float-to-bits-biased sub-scale mul-scale float-from-bits-scale (λ c κs. search needs) returns returns-2)

@@ -1,5 +1,5 @@
 -- `cascade::process` meets its contract. Assumes nothing.
-use mathlib.Core.Path.{_≡_, refl, sym, _∙_}
+use mathlib.Core.Path.{refl, sym, _∙_}
 use borrow.Author.Needs.{needs}
 use Rattle.halfband.proofs.RefusalLaws.{taken-of}
 use Rattle.halfband.proofs.DecimatedLaws.{turned-down}

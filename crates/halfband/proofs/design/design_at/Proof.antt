@@ -1,8 +1,7 @@
 -- `design::design_at` meets its contract. Assumes nothing.
-use mathlib.Core.Path.{_≡_, refl, sym}
-use Prim.Native.Nat.{_+_, _-_, _≤_}
+use mathlib.Core.Path.{refl}
+use Prim.Native.Nat.{_-_, _≤_}
 use native.Mathlib.Omega.{arith}
-use lib.ListN.{length, take, drop}
 use borrow.Author.Needs.{needs}
 use Rattle.halfband.proofs.DesignLaws.{from, copied}
 use Rattle.halfband.proofs.FillLaws.{Filled, filled-none, filled-more}

@@ -1,5 +1,5 @@
 -- `refusal::refused` meets its contract: each return is at the first line that holds. Assumes nothing.
-use mathlib.Core.Path.{_≡_, sym, _∙_}
+use mathlib.Core.Path.{sym, _∙_}
 use mathlib.Core.Bool.{false}
 use borrow.Author.Needs.{needs}
 use borrow.Author.Tests.{ne-eqb}

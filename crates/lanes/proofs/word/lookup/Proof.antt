@@ -1,5 +1,4 @@
 -- `lanes::lookup` meets its contract: its index is below 1,024. Assumes nothing.
-use mathlib.Core.Path.{_≡_, _∙_}
 use Prim.Native.Nat.{_≤_}
 use native.Mathlib.Omega.{arith}
 use borrow.Author.Needs.{needs}

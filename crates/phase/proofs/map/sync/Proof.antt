@@ -2,12 +2,11 @@
 use borrow.Author.Needs.{needs}
 use Rattle.floats.specs.Steps.{given}
 use Rattle.phase.specs.Map.{syncMap}
-use Rattle.phase.specs.Power.{ratioOf}
 use Rattle.phase.proofs.map.sync.Statement.{statement}
 use Rattle.phase.proofs.map.sync.Tie as tie
 
 returns : tie.Need-returns
-unfolding syncMap ratioOf
+unfolding syncMap
 returns c out =
     rw (given (c .before .before .before .before .before .before .before .before .before .pre), given (c .before .before .before .before .before .before .before .before .signed .ensures), given (c .before .before .before .before .before .before .before .to-word .ensures), given (c .before .before .before .before .before .before .to-word2 .ensures), given (c .before .before .before .before .before .add-words .ensures), given (c .before .before .before .before .clamp .ensures), given (c .before .before .before .max .ensures), given (c .before .before .min .ensures), given (c .before .smoothstep .ensures)) (c .pair .ensures out)
 

@@ -1,5 +1,5 @@
 -- `probe::probe_reads_run` meets its contract. The invariant is the promise at the counter. Assumes nothing.
-use mathlib.Core.Path.{_≡_, refl, subst, _∙_}
+use mathlib.Core.Path.{_≡_, refl, subst}
 use Prim.Native.Nat.{ℕ, _≤_, _<_, _-_}
 use lib.ListN.{length}
 use Rattle.floats.specs.Exp2.{entries}

@@ -1,9 +1,7 @@
 -- `probe::reads` meets its contract: each list has four reads at most. Assumes nothing.
-use mathlib.Core.Path.{_≡_, sym, subst}
-use Prim.Native.Nat.{_≤_}
+use mathlib.Core.Path.{sym, subst}
 use borrow.Author.Needs.{needs}
 use Rattle.floats.specs.Steps.{steps}
-use Rattle.reads.specs.declared.lists.ReadList.{ReadList}
 use Rattle.reads.proofs.Few.{Few, start-few, outgoing-few}
 use Rattle.phase.proofs.Few.{apply-few}
 use Rattle.probe.specs.Phases.{readsOf}

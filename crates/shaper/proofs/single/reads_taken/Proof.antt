@@ -4,7 +4,7 @@ use borrow.Author.Needs.{needs}
 use denote.Ref.{now}
 use Rattle.grid.specs.Cells.{col}
 use Rattle.controls.specs.Controls.{controlBuffers}
-use Rattle.shaper.specs.ReadsCall.{readsTaken}
+use Rattle.shaper.specs.ReadsCall.{readsFrom}
 use Rattle.shaper.proofs.TakenLaws.{reads-taken}
 use Rattle.shaper.proofs.single.reads_taken.Statement.{statement}
 use Rattle.shaper.proofs.single.reads_taken.Tie as tie
@@ -12,7 +12,7 @@ use Rattle.shaper.proofs.single.reads_taken.Tie as tie
 called : (c : tie.After-reads-at)
     → let a = c .before .before .before .before .before .before .before .before .before .before .before .before .before .before .before .before .before .before .before .args in
     c .reads-at .result
-    ≡ readsTaken (a .s) (a .rate) (a .lane) (a .host) (a .sub) (a .word) (a .step)
+    ≡ readsFrom (a .s) (a .rate) (a .lane) (a .host) (a .sub) (a .word) (a .step)
     (controlBuffers (now (a .base0)) (now (a .base1)) (now (a .mod0)) (now (a .mod1)) (now (a .source0)) (now (a .source1))) (now (a .curve)) (now (a .inner)) (now (a .fm)) (now (a .last))
 unfolding col
 called c =

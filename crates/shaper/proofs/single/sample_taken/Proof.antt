@@ -7,7 +7,7 @@ use denote.Ref.{now}
 use lib.ListN.{length}
 use Rattle.grid.proofs.CellLaws.{col-at}
 use Rattle.controls.specs.Controls.{controlBuffers}
-use Rattle.shaper.specs.SampleCall.{sampleTaken}
+use Rattle.shaper.specs.SampleCall.{sampleFrom}
 use Rattle.shaper.proofs.StoreLaws.{cell-in}
 use Rattle.shaper.proofs.TakenLaws.{sample-taken}
 use Rattle.shaper.proofs.single.sample_taken.Statement.{statement}
@@ -21,7 +21,7 @@ at-in c =
 called : (c : tie.After-shape-at)
     → let a = c .before .before .before .before .before .before .before .before .before .before .before .before .before .before .before .before .before .before .args in
     c .shape-at .result
-    ≡ sampleTaken (a .s) (a .lane) (a .host) (a .sub) (a .step) (a .x) (controlBuffers (now (a .base0)) (now (a .base1)) (now (a .mod0)) (now (a .mod1)) (now (a .source0)) (now (a .source1))) (now (a .pairs)) (now (a .last))
+    ≡ sampleFrom (a .s) (a .lane) (a .host) (a .sub) (a .step) (a .x) (controlBuffers (now (a .base0)) (now (a .base1)) (now (a .mod0)) (now (a .mod1)) (now (a .source0)) (now (a .source1))) (now (a .pairs)) (now (a .last))
 called c =
     rw (← c .before .before .before .before .before .before .load-pair .ensures, ← c .before .before .before .before .load-pair2 .ensures, col-at _ _ _ _ 0, ← c .before .before .before .place .ensures) (c .shape-at .ensures)
 

@@ -1,10 +1,8 @@
 -- `refusal::prepare_refused` meets its contract: each return is at the first line that holds. Assumes nothing.
-use mathlib.Core.Path.{_≡_, sym, _∙_}
-use mathlib.Core.Bool.{false}
+use mathlib.Core.Path.{sym, _∙_}
 use Prim.Native.Nat.{_≤_}
 use borrow.Author.Needs.{needs}
 use borrow.Author.Tests.{ne-eqb}
-use Rattle.limits.specs.Lines.{badModes, badFactor, badLanes, badFrames, badRate}
 use Rattle.limits.proofs.LineLaws.{numbers-passed, good-lanes, good-frames}
 use Rattle.spans.proofs.RefusalLaws.{prepare-table}
 use Rattle.spans.proofs.refusal.prepare_refused.Statement.{statement}

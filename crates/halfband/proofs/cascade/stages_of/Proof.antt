@@ -1,8 +1,8 @@
--- `refusal::stages_of` meets its contract. Assumes nothing.
+-- `cascade::stages_of` meets its contract. Assumes nothing.
 use borrow.Author.Tests.{ne-eqb}
-use Rattle.halfband.specs.Refusal.{stagesOf}
-use Rattle.halfband.proofs.refusal.stages_of.Statement.{statement}
-use Rattle.halfband.proofs.refusal.stages_of.Tie as tie
+use Rattle.halfband.specs.Halfband.{stagesOf}
+use Rattle.halfband.proofs.cascade.stages_of.Statement.{statement}
+use Rattle.halfband.proofs.cascade.stages_of.Tie as tie
 
 returns : tie.Need-returns
 unfolding stagesOf
