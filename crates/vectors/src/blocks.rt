@@ -1,23 +1,6 @@
 // Runs of the block run: designs, a block's numbers and its buffers are remade from a seed, its spans
 // are prepared, and then its ranges are rendered one after another on the same buffers. At the most four
 // lanes and 40 host frames. Some calls are made to be turned down.
-use crate::calls::Draws;
-use crate::calls::Kind;
-use crate::calls::active_of;
-use crate::calls::below;
-use crate::calls::character_of;
-use crate::calls::cut;
-use crate::calls::draw_kind;
-use crate::calls::drawn;
-use crate::calls::frames_of;
-use crate::calls::given;
-use crate::calls::lanes_of;
-use crate::calls::minus;
-use crate::calls::part;
-use crate::calls::plus;
-use crate::calls::put;
-use crate::calls::rate_of;
-use crate::calls::step_of;
 use answers::decimations::designs;
 use answers::decimations::draw_coefs;
 use answers::decimations::folded_cells;
@@ -27,6 +10,23 @@ use answers::random::folded;
 use answers::random::next;
 use block::BlockSettings;
 use block::block_run;
+use call_answers::calls::Draws;
+use call_answers::calls::Kind;
+use call_answers::calls::active_of;
+use call_answers::calls::below;
+use call_answers::calls::character_of;
+use call_answers::calls::cut;
+use call_answers::calls::draw_kind;
+use call_answers::calls::drawn;
+use call_answers::calls::frames_of;
+use call_answers::calls::given;
+use call_answers::calls::lanes_of;
+use call_answers::calls::minus;
+use call_answers::calls::part;
+use call_answers::calls::plus;
+use call_answers::calls::put;
+use call_answers::calls::rate_of;
+use call_answers::calls::step_of;
 use halfband::Design;
 use halfband::Designs;
 use limits::Answer;

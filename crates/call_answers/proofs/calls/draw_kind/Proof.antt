@@ -4,8 +4,8 @@ use Prim.Native.Nat.{_≤_, _-_}
 use lib.ListN.{length}
 use borrow.Author.Needs.{needs}
 use native.Mathlib.Omega.{arith}
-use Rattle.vectors.proofs.calls.draw_kind.Statement.{statement}
-use Rattle.vectors.proofs.calls.draw_kind.Tie as tie
+use Rattle.call_answers.proofs.calls.draw_kind.Statement.{statement}
+use Rattle.call_answers.proofs.calls.draw_kind.Tie as tie
 
 abbrev Inv-loop : tie.InvT-loop
 Inv-loop seed kind s cells₀ s₀ i₀ i-end cells s' i = (i ≤ i-end) × (i-end ≡ length cells₀) × (length cells ≡ length cells₀)
