@@ -4,6 +4,7 @@
 // `block_vectors` of oracle/programs, which has their format.
 mod blocks;
 mod boundaries;
+mod settings;
 mod text;
 
 use answers::answer::answer;
