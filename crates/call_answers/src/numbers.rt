@@ -3,7 +3,8 @@
 use crate::cells::cell;
 use answers::phases::fraction;
 use answers::random::next;
-ghost use Prim.Native.Nat.{_≤_};
+ghost use mathlib.Core.Path.{_≡_};
+ghost use Prim.Native.Nat.{_+_, _%_, _^_, _≤_, _<_};
 
 // The draws that a call is made of.
 pub struct Draws {
@@ -43,16 +44,22 @@ pub fn drawn(s: u32) -> Draws {
 }
 
 // One of `n` numbers from 0 on; `n` is never 0.
-pub fn below(draw: u32, n: u32) -> u32 {
+pub fn below(draw: u32, n: u32) -> u32
+    ensures { λ r. ⌜ (0 < n → r ≡ draw % n) ⌝ }
+{
     if n == 0 { 0 } else { draw % n }
 }
 
 // Numbers of frames and lanes are small, so that neither wraps.
-pub fn minus(a: u32, b: u32) -> u32 {
+pub fn minus(a: u32, b: u32) -> u32
+    ensures { λ r. ⌜ (r + b) % 2 ^ 32 ≡ a ⌝ }
+{
     std::num::wrapping_sub_u32(a, b)
 }
 
-pub fn plus(a: u32, b: u32) -> u32 {
+pub fn plus(a: u32, b: u32) -> u32
+    ensures { λ r. ⌜ r ≡ (a + b) % 2 ^ 32 ⌝ }
+{
     std::num::wrapping_add_u32(a, b)
 }
 
@@ -83,7 +90,9 @@ pub fn step_of(seed: u32, draw: u32) -> u32 {
     }
 }
 
-pub fn rate_of(draw: u32) -> u32 {
+pub fn rate_of(draw: u32) -> u32
+    ensures { λ r. ⌜ (8000 ≤ r) × (r ≤ 192000) ⌝ }
+{
     8000 + draw % 184001
 }
 
