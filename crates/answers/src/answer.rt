@@ -11,10 +11,13 @@ use floats::sign_bit;
 use floats::split;
 use floats::sqrt;
 ghost use mathlib.Core.Path.{_≡_};
+ghost use lib.Ieee.{binary32, ofBits, toBits};
 ghost use Rattle.floats.specs.Exp2.{entries};
 
-// Every NaN is read as one value, and written as one.
-pub fn float(bits: u32) -> f32 {
+// The float with this bit pattern; every NaN is read as one value, and written as one pattern.
+pub fn float(bits: u32) -> f32
+    ensures { λ r. ⌜ r ≡ ofBits binary32 bits ⌝ }
+{
     if bits % 0x8000_0000 > 0x7f80_0000 {
         0.0 / 0.0
     } else {
@@ -22,7 +25,9 @@ pub fn float(bits: u32) -> f32 {
     }
 }
 
-pub fn pattern(x: f32) -> u32 {
+pub fn pattern(x: f32) -> u32
+    ensures { λ r. ⌜ r ≡ toBits binary32 x ⌝ }
+{
     if x != x { 0x7fc0_0000 } else { f32::to_bits(x) }
 }
 

@@ -2,6 +2,8 @@
 use crate::answer::answer;
 use floats::nearest_u32;
 ghost use mathlib.Core.Path.{_≡_};
+ghost use Prim.Native.Nat.{_*_, _%_, _^_};
+ghost use lib.Bits.{bitXor};
 ghost use Rattle.floats.specs.Exp2.{entries};
 
 // The answers of `op` to `count` draws of three words.
@@ -26,8 +28,10 @@ pub fn next(s: u32) -> u32 {
     s ^ (s << 5)
 }
 
-// 64-bit FNV-1a, a word at a time: (h ^ word) × 0x100000001b3, wrapping.
-pub fn folded(h: u64, word: u32) -> u64 {
+// 64-bit FNV-1a, a word at a time.
+pub fn folded(h: u64, word: u32) -> u64
+    ensures { λ r. ⌜ r ≡ bitXor h word * 0x100000001b3 % 2 ^ 64 ⌝ }
+{
     let h = h ^ (word as u64);
     let low = h % 0x1_0000_0000 * 0x1b3;
     let high = h / 0x1_0000_0000 % 0x1_0000_0000 * 0x1b3 % 0x1_0000_0000 * 0x1_0000_0000;

@@ -4,9 +4,7 @@
 // `block_vectors` of oracle/programs, which has their format.
 mod blocks;
 mod boundaries;
-mod calls;
-mod singles;
-mod stretches;
+mod settings;
 mod text;
 
 use answers::answer::answer;
@@ -16,6 +14,8 @@ use answers::random::Run;
 use answers::waves::WaveRun;
 use boundaries::BOUNDARIES;
 use boundaries::boundaries_kept;
+use call_answers::singles;
+use call_answers::stretches;
 use floats::POWERS;
 use libc::STDIN_FILENO;
 use libc::STDOUT_FILENO;

@@ -1,8 +1,8 @@
--- `blocks::draw_steps` is safe and ends. Assumes nothing.
+-- `block_cells::draw_steps` is safe and ends. Assumes nothing.
 use Prim.Native.Nat.{_≤_, _-_}
 use borrow.Author.Needs.{needs}
-use Rattle.vectors.proofs.blocks.draw_steps.Statement.{statement}
-use Rattle.vectors.proofs.blocks.draw_steps.Tie as tie
+use Rattle.call_answers.proofs.block_cells.draw_steps.Statement.{statement}
+use Rattle.call_answers.proofs.block_cells.draw_steps.Tie as tie
 
 abbrev Inv-loop : tie.InvT-loop
 Inv-loop seed s steps₀ s₀ i₀ steps s' i = i ≤ 1280

@@ -1,14 +1,14 @@
--- `singles::shape_lane_hash` is safe and ends. Assumes nothing.
+-- `singles::reads_lane_hash` is safe and ends. Assumes nothing.
 use Prim.Native.Nat.{_≤_, _-_}
 use borrow.Author.Needs.{needs}
-use Rattle.vectors.proofs.singles.shape_lane_hash.Statement.{statement}
-use Rattle.vectors.proofs.singles.shape_lane_hash.Tie as tie
+use Rattle.call_answers.proofs.singles.reads_lane_hash.Statement.{statement}
+use Rattle.call_answers.proofs.singles.reads_lane_hash.Tie as tie
 
 abbrev Inv-loop : tie.InvT-loop
-Inv-loop run seed count controls pairs₀ last₀ s₀ h₀ counter₀ pairs last s h counter = counter ≤ count
+Inv-loop table run seed count controls inner fm₀ last s₀ h₀ counter₀ fm s h counter = counter ≤ count
 
 abbrev μ-loop : tie.MeasureT-loop
-μ-loop run seed count controls pairs₀ last₀ s₀ h₀ counter₀ pairs last s h counter = count - counter
+μ-loop table run seed count controls inner fm₀ last s₀ h₀ counter₀ fm s h counter = count - counter
 
 slice-aggregate-draw-kind : tie.Need-slice-aggregate-draw-kind Inv-loop μ-loop
 slice-aggregate-draw-kind c = search needs
@@ -28,14 +28,20 @@ slice-aggregate-draw-kind-3 c = search needs
 draw-kind-requires-3 : tie.Need-draw-kind-requires-3 Inv-loop μ-loop
 draw-kind-requires-3 c κs = search needs
 
+slice-aggregate-draw-kind-4 : tie.Need-slice-aggregate-draw-kind-4 Inv-loop μ-loop
+slice-aggregate-draw-kind-4 c = search needs
+
+draw-kind-requires-4 : tie.Need-draw-kind-requires-4 Inv-loop μ-loop
+draw-kind-requires-4 c κs = search needs
+
 loop-holds : tie.Need-loop-holds Inv-loop μ-loop
 loop-holds c = search needs
 
 drawn-requires : tie.Need-drawn-requires Inv-loop μ-loop
 drawn-requires c κs = search needs
 
-shape-turn-requires : tie.Need-shape-turn-requires Inv-loop μ-loop
-shape-turn-requires c κs = search needs
+reads-turn-requires : tie.Need-reads-turn-requires Inv-loop μ-loop
+reads-turn-requires c κs = search needs
 
 add-counter : tie.Need-add-counter Inv-loop μ-loop
 add-counter c = search needs
@@ -49,8 +55,8 @@ loop-again c = search needs
 returns : tie.Need-returns Inv-loop μ-loop
 returns c = search needs
 
-pub shape-lane-hash-spec : {M : Type 1} → statement M
-shape-lane-hash-spec =
+pub reads-lane-hash-spec : {M : Type 1} → statement M
+reads-lane-hash-spec =
     tie.close
     (tie.spec
     Inv-loop
@@ -61,9 +67,11 @@ shape-lane-hash-spec =
     draw-kind-requires-2
     slice-aggregate-draw-kind-3
     draw-kind-requires-3
+    slice-aggregate-draw-kind-4
+    draw-kind-requires-4
     loop-holds
     drawn-requires
-    shape-turn-requires
+    reads-turn-requires
     add-counter
     loop-less
     loop-again

@@ -1,17 +1,14 @@
--- `stretches::prepare_hash` is safe and ends. Assumes nothing.
+-- `singles::shape_lane_hash` is safe and ends. Assumes nothing.
 use Prim.Native.Nat.{_≤_, _-_}
 use borrow.Author.Needs.{needs}
-use Rattle.vectors.proofs.stretches.prepare_hash.Statement.{statement}
-use Rattle.vectors.proofs.stretches.prepare_hash.Tie as tie
+use Rattle.call_answers.proofs.singles.shape_lane_hash.Statement.{statement}
+use Rattle.call_answers.proofs.singles.shape_lane_hash.Tie as tie
 
 abbrev Inv-loop : tie.InvT-loop
-Inv-loop run seed count curve controls inner₀ stretch₀ add₀ s₀ h₀ counter₀ inner stretch add s h counter = counter ≤ count
+Inv-loop run seed count controls pairs₀ last₀ s₀ h₀ counter₀ pairs last s h counter = counter ≤ count
 
 abbrev μ-loop : tie.MeasureT-loop
-μ-loop run seed count curve controls inner₀ stretch₀ add₀ s₀ h₀ counter₀ inner stretch add s h counter = count - counter
-
-slope-table-requires : tie.Need-slope-table-requires Inv-loop μ-loop
-slope-table-requires c κs = search needs
+μ-loop run seed count controls pairs₀ last₀ s₀ h₀ counter₀ pairs last s h counter = count - counter
 
 slice-aggregate-draw-kind : tie.Need-slice-aggregate-draw-kind Inv-loop μ-loop
 slice-aggregate-draw-kind c = search needs
@@ -31,20 +28,14 @@ slice-aggregate-draw-kind-3 c = search needs
 draw-kind-requires-3 : tie.Need-draw-kind-requires-3 Inv-loop μ-loop
 draw-kind-requires-3 c κs = search needs
 
-slice-aggregate-draw-kind-4 : tie.Need-slice-aggregate-draw-kind-4 Inv-loop μ-loop
-slice-aggregate-draw-kind-4 c = search needs
-
-draw-kind-requires-4 : tie.Need-draw-kind-requires-4 Inv-loop μ-loop
-draw-kind-requires-4 c κs = search needs
-
 loop-holds : tie.Need-loop-holds Inv-loop μ-loop
 loop-holds c = search needs
 
 drawn-requires : tie.Need-drawn-requires Inv-loop μ-loop
 drawn-requires c κs = search needs
 
-prepare-turn-requires : tie.Need-prepare-turn-requires Inv-loop μ-loop
-prepare-turn-requires c κs = search needs
+shape-turn-requires : tie.Need-shape-turn-requires Inv-loop μ-loop
+shape-turn-requires c κs = search needs
 
 add-counter : tie.Need-add-counter Inv-loop μ-loop
 add-counter c = search needs
@@ -58,24 +49,21 @@ loop-again c = search needs
 returns : tie.Need-returns Inv-loop μ-loop
 returns c = search needs
 
-pub prepare-hash-spec : {M : Type 1} → statement M
-prepare-hash-spec =
+pub shape-lane-hash-spec : {M : Type 1} → statement M
+shape-lane-hash-spec =
     tie.close
     (tie.spec
     Inv-loop
     μ-loop
-    slope-table-requires
     slice-aggregate-draw-kind
     draw-kind-requires
     slice-aggregate-draw-kind-2
     draw-kind-requires-2
     slice-aggregate-draw-kind-3
     draw-kind-requires-3
-    slice-aggregate-draw-kind-4
-    draw-kind-requires-4
     loop-holds
     drawn-requires
-    prepare-turn-requires
+    shape-turn-requires
     add-counter
     loop-less
     loop-again

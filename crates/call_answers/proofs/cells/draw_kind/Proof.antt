@@ -1,11 +1,11 @@
--- `calls::draw_kind` is safe and ends. Assumes nothing.
+-- `cells::draw_kind` is safe and ends. Assumes nothing.
 use mathlib.Core.Path.{_≡_, refl}
 use Prim.Native.Nat.{_≤_, _-_}
 use lib.ListN.{length}
 use borrow.Author.Needs.{needs}
 use native.Mathlib.Omega.{arith}
-use Rattle.vectors.proofs.calls.draw_kind.Statement.{statement}
-use Rattle.vectors.proofs.calls.draw_kind.Tie as tie
+use Rattle.call_answers.proofs.cells.draw_kind.Statement.{statement}
+use Rattle.call_answers.proofs.cells.draw_kind.Tie as tie
 
 abbrev Inv-loop : tie.InvT-loop
 Inv-loop seed kind s cells₀ s₀ i₀ i-end cells s' i = (i ≤ i-end) × (i-end ≡ length cells₀) × (length cells ≡ length cells₀)

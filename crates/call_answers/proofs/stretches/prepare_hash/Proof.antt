@@ -1,14 +1,17 @@
--- `singles::reads_lane_hash` is safe and ends. Assumes nothing.
+-- `stretches::prepare_hash` is safe and ends. Assumes nothing.
 use Prim.Native.Nat.{_≤_, _-_}
 use borrow.Author.Needs.{needs}
-use Rattle.vectors.proofs.singles.reads_lane_hash.Statement.{statement}
-use Rattle.vectors.proofs.singles.reads_lane_hash.Tie as tie
+use Rattle.call_answers.proofs.stretches.prepare_hash.Statement.{statement}
+use Rattle.call_answers.proofs.stretches.prepare_hash.Tie as tie
 
 abbrev Inv-loop : tie.InvT-loop
-Inv-loop table run seed count controls inner fm₀ last s₀ h₀ counter₀ fm s h counter = counter ≤ count
+Inv-loop run seed count curve controls inner₀ stretch₀ add₀ s₀ h₀ counter₀ inner stretch add s h counter = counter ≤ count
 
 abbrev μ-loop : tie.MeasureT-loop
-μ-loop table run seed count controls inner fm₀ last s₀ h₀ counter₀ fm s h counter = count - counter
+μ-loop run seed count curve controls inner₀ stretch₀ add₀ s₀ h₀ counter₀ inner stretch add s h counter = count - counter
+
+slope-table-requires : tie.Need-slope-table-requires Inv-loop μ-loop
+slope-table-requires c κs = search needs
 
 slice-aggregate-draw-kind : tie.Need-slice-aggregate-draw-kind Inv-loop μ-loop
 slice-aggregate-draw-kind c = search needs
@@ -40,8 +43,8 @@ loop-holds c = search needs
 drawn-requires : tie.Need-drawn-requires Inv-loop μ-loop
 drawn-requires c κs = search needs
 
-reads-turn-requires : tie.Need-reads-turn-requires Inv-loop μ-loop
-reads-turn-requires c κs = search needs
+prepare-turn-requires : tie.Need-prepare-turn-requires Inv-loop μ-loop
+prepare-turn-requires c κs = search needs
 
 add-counter : tie.Need-add-counter Inv-loop μ-loop
 add-counter c = search needs
@@ -55,12 +58,13 @@ loop-again c = search needs
 returns : tie.Need-returns Inv-loop μ-loop
 returns c = search needs
 
-pub reads-lane-hash-spec : {M : Type 1} → statement M
-reads-lane-hash-spec =
+pub prepare-hash-spec : {M : Type 1} → statement M
+prepare-hash-spec =
     tie.close
     (tie.spec
     Inv-loop
     μ-loop
+    slope-table-requires
     slice-aggregate-draw-kind
     draw-kind-requires
     slice-aggregate-draw-kind-2
@@ -71,7 +75,7 @@ reads-lane-hash-spec =
     draw-kind-requires-4
     loop-holds
     drawn-requires
-    reads-turn-requires
+    prepare-turn-requires
     add-counter
     loop-less
     loop-again

@@ -1,8 +1,8 @@
--- `blocks::draw_words` is safe and ends. Assumes nothing.
+-- `block_cells::draw_words` is safe and ends. Assumes nothing.
 use Prim.Native.Nat.{_≤_, _-_}
 use borrow.Author.Needs.{needs}
-use Rattle.vectors.proofs.blocks.draw_words.Statement.{statement}
-use Rattle.vectors.proofs.blocks.draw_words.Tie as tie
+use Rattle.call_answers.proofs.block_cells.draw_words.Statement.{statement}
+use Rattle.call_answers.proofs.block_cells.draw_words.Tie as tie
 
 abbrev Inv-loop : tie.InvT-loop
 Inv-loop s n steps words₀ s₀ i₀ words s' i = i ≤ 1280

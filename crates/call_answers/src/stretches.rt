@@ -1,13 +1,14 @@
 // Runs of the calls about a block's spans, made and hashed as those of singles.rt.
 use crate::calls::Call;
-use crate::calls::Draws;
-use crate::calls::Kind;
 use crate::calls::Lent;
 use crate::calls::call_of;
-use crate::calls::draw_kind;
-use crate::calls::drawn;
 use crate::calls::lent_of;
-use crate::calls::part;
+use crate::cells::Kind;
+use crate::cells::draw_kind;
+use crate::cells::part;
+use crate::numbers::Draws;
+use crate::numbers::Inputs;
+use crate::numbers::drawn;
 use crate::singles::folded_value;
 use answers::decimations::folded_cells;
 use answers::phases::slope_table;
@@ -15,6 +16,7 @@ use answers::random::ModesRun;
 use answers::random::folded;
 use limits::Answer;
 use limits::Valued;
+use shaper::Settings;
 ghost use Prim.Native.Nat.{_≤_};
 ghost use lib.ListN.{length};
 
@@ -43,15 +45,23 @@ fn prepare(
         c.rate,
         part(controls, 0, l.base0),
         part(controls, 4, 4),
-        part(controls, 8, l.mod0),
-        part(controls, 296, l.mod1),
-        part(controls, 584, l.source0),
-        part(controls, 872, l.source1),
+        part(controls, 8, l.inputs.mod0),
+        part(controls, 296, l.inputs.mod1),
+        part(controls, 584, l.inputs.source0),
+        part(controls, 872, l.inputs.source1),
         curve,
         inner,
         stretch,
         add,
     )
+}
+
+// What a call answers and the spans that it leaves, put to the hash.
+fn folded_spans(h: u64, a: Answer, inner: &[f32], stretch: &[f32], add: &[f32]) -> u64 {
+    let h = folded(folded(h, a.number), a.frames);
+    let h = folded_cells(h, inner);
+    let h = folded_cells(h, stretch);
+    folded_cells(h, add)
 }
 
 fn prepare_turn(
@@ -67,10 +77,7 @@ fn prepare_turn(
     let c = call_of(run, d);
     let l = lent_of(d);
     let a = prepare(c, l, curve, controls, inner, stretch, add, l.add % 13);
-    let h = folded(folded(h, a.number), a.frames);
-    let h = folded_cells(h, inner);
-    let h = folded_cells(h, stretch);
-    folded_cells(h, add)
+    folded_spans(h, a, inner, stretch, add)
 }
 
 pub fn prepare_hash(run: ModesRun) -> u64 {
@@ -81,7 +88,7 @@ pub fn prepare_hash(run: ModesRun) -> u64 {
     let mut inner = [0.0; 12];
     let mut stretch = [0.0; 12];
     let mut add = [0.0; 12];
-    let mut s = draw_kind(seed, Kind::Controls, seed, &mut controls);
+    let mut s = draw_kind(seed, Kind::Controls(584), seed, &mut controls);
     s = draw_kind(seed, Kind::Stretch, s, &mut inner);
     s = draw_kind(seed, Kind::Stretch, s, &mut stretch);
     s = draw_kind(seed, Kind::Slope, s, &mut add);
@@ -101,6 +108,40 @@ pub fn prepare_hash(run: ModesRun) -> u64 {
         );
     }
     h
+}
+
+// The spans of a block that is rendered afterwards, put to a new hash.
+pub fn prepared(
+    s: Settings,
+    rate: u32,
+    i: Inputs,
+    active: u32,
+    curve: &[f32; 1025],
+    controls: &[f32; 648],
+    inner: &mut [f32; 8],
+    stretch: &mut [f32; 8],
+    add: &mut [f32; 8],
+) -> u64 {
+    let a = spans::prepare(
+        s.slot0.mode,
+        s.slot1.mode,
+        s.factor,
+        s.lanes,
+        active,
+        s.frames,
+        rate,
+        part(controls, 0, 4),
+        part(controls, 4, 4),
+        part(controls, 8, i.mod0),
+        part(controls, 168, i.mod1),
+        part(controls, 328, i.source0),
+        part(controls, 488, i.source1),
+        curve,
+        inner,
+        stretch,
+        add,
+    );
+    folded_spans(0xcbf2_9ce4_8422_2325, a, inner, stretch, add)
 }
 
 fn stretch(c: Call, l: Lent, stretch: &[f32; 12], add: &[f32; 12]) -> Valued {

@@ -1,8 +1,8 @@
 -- `stretches::stretch_hash` is safe and ends. Assumes nothing.
 use Prim.Native.Nat.{_≤_, _-_}
 use borrow.Author.Needs.{needs}
-use Rattle.vectors.proofs.stretches.stretch_hash.Statement.{statement}
-use Rattle.vectors.proofs.stretches.stretch_hash.Tie as tie
+use Rattle.call_answers.proofs.stretches.stretch_hash.Statement.{statement}
+use Rattle.call_answers.proofs.stretches.stretch_hash.Tie as tie
 
 abbrev Inv-loop : tie.InvT-loop
 Inv-loop run seed count rows add s₀ h₀ counter₀ s h counter = counter ≤ count

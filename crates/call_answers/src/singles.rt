@@ -1,14 +1,14 @@
 // Runs of the calls about one lane: their buffers and then their calls are remade from a seed, the calls
 // one after the other on the same buffers, and a hash takes what each answers and leaves.
 use crate::calls::Call;
-use crate::calls::Draws;
-use crate::calls::Kind;
 use crate::calls::Lent;
 use crate::calls::call_of;
-use crate::calls::draw_kind;
-use crate::calls::drawn;
 use crate::calls::lent_of;
-use crate::calls::part;
+use crate::cells::Kind;
+use crate::cells::draw_kind;
+use crate::cells::part;
+use crate::numbers::Draws;
+use crate::numbers::drawn;
 use answers::answer::pattern;
 use answers::decimations::folded_cells;
 use answers::phases::folded_reads;
@@ -64,10 +64,10 @@ fn reads_lane(
         c.step,
         part(controls, 0, l.base0),
         part(controls, 4, 4),
-        part(controls, 8, l.mod0),
-        part(controls, 296, l.mod1),
-        part(controls, 584, l.source0),
-        part(controls, 872, l.source1),
+        part(controls, 8, l.inputs.mod0),
+        part(controls, 296, l.inputs.mod1),
+        part(controls, 584, l.inputs.source0),
+        part(controls, 872, l.inputs.source1),
         table,
         inner,
         fm,
@@ -106,7 +106,7 @@ pub fn reads_lane_hash(table: &[f32; 1025], run: ModesRun) -> u64 {
     let mut inner = [0.0; 12];
     let mut fm = [0.0; 8];
     let mut last = [0.0; 4];
-    let mut s = draw_kind(seed, Kind::Controls, seed, &mut controls);
+    let mut s = draw_kind(seed, Kind::Controls(584), seed, &mut controls);
     s = draw_kind(seed, Kind::Stretch, s, &mut inner);
     s = draw_kind(seed, Kind::Half, s, &mut fm);
     s = draw_kind(seed, Kind::Sample, s, &mut last);
@@ -145,10 +145,10 @@ fn shape_lane(
         c.x,
         part(controls, 0, l.base0),
         part(controls, 4, 4),
-        part(controls, 8, l.mod0),
-        part(controls, 296, l.mod1),
-        part(controls, 584, l.source0),
-        part(controls, 872, l.source1),
+        part(controls, 8, l.inputs.mod0),
+        part(controls, 296, l.inputs.mod1),
+        part(controls, 584, l.inputs.source0),
+        part(controls, 872, l.inputs.source1),
         pairs,
         last,
     )
@@ -181,7 +181,7 @@ pub fn shape_lane_hash(run: ModesRun) -> u64 {
     let mut controls = [0.0; 1160];
     let mut pairs = [0.0; 16];
     let mut last = [0.0; 4];
-    let mut s = draw_kind(seed, Kind::Controls, seed, &mut controls);
+    let mut s = draw_kind(seed, Kind::Controls(584), seed, &mut controls);
     s = draw_kind(seed, Kind::Sample, s, &mut pairs);
     s = draw_kind(seed, Kind::Sample, s, &mut last);
     let mut h: u64 = 0xcbf2_9ce4_8422_2325;
