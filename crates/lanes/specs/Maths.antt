@@ -4,7 +4,7 @@ use mathlib.Core.List.{List}
 use lib.ListN.{getD}
 use lib.Ieee as Ieee
 use lib.Ieee.{Float, nan}
-use Rattle.floats.specs.F32.{_⊕_, _⊖_, _⊗_, _⊘_, bits, 0f, 1f, 2f, half, quarter, tau}
+use Rattle.floats.specs.F32.{_⊕_, _⊖_, _⊗_, _⊘_, bits, 0f, 1f, 2f, 4f, half, quarter, tau}
 use Rattle.floats.specs.Steps.{_>>=_}
 use Rattle.floats.specs.Floor.{floorOf}
 use Rattle.floats.specs.Sign.{absOf, signBit}
@@ -74,7 +74,7 @@ atanOf ks x₀ = do
   x ← halfOf x₁
   x2 ← x ⊗ x
   p ← horner ks x2 7 (getD ks 7 nan)
-  p ⊗ x ⊗ bits 0x4080_0000
+  p ⊗ x ⊗ 4f
 
 -- `std::f32::consts`: LOG2_E, LN_2
 abbrev pub log2e : Float

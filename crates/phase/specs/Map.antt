@@ -5,7 +5,7 @@ use mathlib.Core.List.{List, [], _∷_}
 use lib.ListN.{getD}
 use lib.Ieee as Ieee
 use lib.Ieee.{Float, nan}
-use Rattle.floats.specs.F32.{_⊕_, _⊖_, _⊗_, _⊘_, bits, 0f, 1f, 2f, half, quarter, tau}
+use Rattle.floats.specs.F32.{_⊕_, _⊖_, _⊗_, _⊘_, bits, 0f, 1f, 2f, 4f, half, quarter, tau}
 use Rattle.floats.specs.Steps.{_>>=_}
 use Rattle.floats.specs.Floor.{floorOf}
 use Rattle.lanes.specs.Lane.{mulAdd, minOf, maxOf}
@@ -132,7 +132,7 @@ remapMirroredMap table a word gain out = do
 unfoldable pub remapQuadMap : List Float → Float → ℕ → Float → ReadList → ReadList
 remapQuadMap table a word gain out = do
   u₀ ← unitOf word
-  u ← u₀ ⊗ bits 0x4080_0000
+  u ← u₀ ⊗ 4f
   part ← floorOf u
   y₀ ← remapOf table a (u ⊖ part)
   y ← (part ⊕ y₀) ⊗ quarter

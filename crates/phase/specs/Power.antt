@@ -2,14 +2,14 @@
 use Prim.Native.Nat.{ℕ}
 use mathlib.Core.List.{[], _∷_}
 use lib.Ieee.{Float}
-use Rattle.floats.specs.F32.{_⊖_, _⊗_, bits, 1f, 2f}
+use Rattle.floats.specs.F32.{_⊖_, _⊗_, bits, 1f, 2f, 4f}
 use Rattle.floats.specs.Exp2.{exp2Of}
 use Rattle.modes.specs.Mode.{numberOf, Sync, Quantise}
 use Rattle.modes.specs.Choice.{Case, _⇒_, caseOf}
 
 -- Sync's ratio; 4 is SYNC_MAX_RATIO.log2()
 unfoldable pub ratioOf : Float → Float
-ratioOf a = exp2Of (a ⊗ bits 0x4080_0000)
+ratioOf a = exp2Of (a ⊗ 4f)
 
 -- how many steps a cycle has under Quantise; 10 is (QUANTISE_MAX_STEPS / QUANTISE_MIN_STEPS).log2(), 2 is QUANTISE_MIN_STEPS
 unfoldable pub stepCount : Float → Float

@@ -3,7 +3,7 @@ use Prim.Native.Nat.{ℕ}
 use mathlib.Core.Bool.{cond}
 use mathlib.Core.List.{[], _∷_}
 use lib.Ieee.{Float}
-use Rattle.floats.specs.F32.{_⊕_, _⊖_, _⊗_, _⊘_, bits, 0f, 1f, 2f, half}
+use Rattle.floats.specs.F32.{_⊕_, _⊖_, _⊗_, _⊘_, 0f, 1f, 2f, 4f, half}
 use Rattle.floats.specs.Steps.{_>>=_}
 use Rattle.floats.specs.Sign.{absOf}
 use Rattle.floats.specs.Sqrt.{sqrtOf}
@@ -19,7 +19,7 @@ use Rattle.slope.specs.Strengths.{leanMax, pulseMax, pinchStrength, lean
 unfoldable pub leanSteepest : Float → Float
 leanSteepest beta = do
   b ← absOf beta
-  root ← sqrtOf (b ⊗ b ⊕ bits 0x4080_0000)
+  root ← sqrtOf (b ⊗ b ⊕ 4f)
   (b ⊗ b ⊕ 2f ⊕ b ⊗ root) ⊗ half
 
 unfoldable pub pinchSlope : ℕ → Float → Float
@@ -37,7 +37,7 @@ leanSlope mode a = do
 unfoldable pub slopeOf : ℕ → Float → Float → Float
 slopeOf mode a curve =
     caseOf mode
-    ((numberOf Sync ⇒ exp2Of (bits 0x4080_0000 ⊗ a)) ∷
+    ((numberOf Sync ⇒ exp2Of (4f ⊗ a)) ∷
     (numberOf PinchIn ⇒ pinchSlope mode a) ∷
     (numberOf PinchOut ⇒ pinchSlope mode a) ∷
     (numberOf Pinch ⇒ pinchSlope mode a) ∷

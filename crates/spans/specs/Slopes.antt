@@ -5,7 +5,7 @@ use mathlib.Core.Option.{Option, some, none}
 use mathlib.Core.List.{List}
 use lib.ListN.{getD}
 use lib.Ieee.{Float, nan}
-use Rattle.floats.specs.F32.{_⊕_, _⊖_, _⊗_, _⊘_, bits, 0f, 1f, half}
+use Rattle.floats.specs.F32.{_⊕_, _⊖_, _⊗_, _⊘_, bits, 0f, 1f, 100f, half}
 use Rattle.floats.specs.Steps.{_>>=_, if_then_else_}
 use Rattle.floats.specs.Sign.{absOf}
 use Rattle.lanes.specs.Lane.{minOf, maxOf}
@@ -13,7 +13,7 @@ use Rattle.lanes.specs.Word.{two32}
 use Rattle.modes.specs.Facts.{Fact, given, refused, thruZero, exponential, linear, Modulated, fm, phaseDistortion, am, ring}
 use Rattle.modes.specs.Table.{modulatedOf, distortionOf}
 use Rattle.slope.specs.Slope.{stretchOf}
-use Rattle.voice.specs.PhaseRun.{whole, inPhase, fmExponential}
+use Rattle.voice.specs.PhaseRun.{whole, inPhase, fmMaxHz, fmExponential}
 use Rattle.limits.specs.Lengths.{subBlock}
 use Rattle.controls.specs.Controls.{Controls}
 use Rattle.spans.specs.declared.slopes.Bounds.{Bounds}
@@ -52,8 +52,8 @@ swingTo xs from (suc k) = swung (swingTo xs from k) (getD xs (from + k) nan)
 -- the larger of the slopes at both bounds; `prepare` divides by 100
 unfoldable pub steepestAt : ℕ → Float → Bounds → Float
 steepestAt mode curve b = do
-  low ← stretchOf mode (b .low ⊘ bits 0x42c8_0000) curve
-  high ← stretchOf mode (b .high ⊘ bits 0x42c8_0000) curve
+  low ← stretchOf mode (b .low ⊘ 100f) curve
+  high ← stretchOf mode (b .high ⊘ 100f) curve
   maxOf low high
 
 -- low.abs().max(high.abs()).min(100.0) / 100.0
@@ -62,8 +62,8 @@ reachOf b = do
   low ← absOf (b .low)
   high ← absOf (b .high)
   most ← maxOf low high
-  kept ← minOf most (bits 0x42c8_0000)
-  kept ⊘ bits 0x42c8_0000
+  kept ← minOf most 100f
+  kept ⊘ 100f
 
 -- 4_294_967_296.0 / (rate * factor)
 unfoldable pub wordsPerHertz : ℕ → ℕ → Float
@@ -71,7 +71,7 @@ wordsPerHertz rate factor = two32 ⊘ whole (rate * factor)
 
 -- a * a * a * a * FM_MAX_HZ * x * words_per_hertz
 unfoldable pub fmSlope : Float → Float → Float → Float
-fmSlope a x perHertz = a ⊗ a ⊗ a ⊗ a ⊗ bits 0x47a3_9300 ⊗ x ⊗ perHertz
+fmSlope a x perHertz = a ⊗ a ⊗ a ⊗ a ⊗ fmMaxHz ⊗ x ⊗ perHertz
 
 -- amount * PD_MAX_CYCLES * (step / factor as f32) * 4_294_967_296.0
 unfoldable pub pdSlope : Float → Float → ℕ → Float

@@ -58,9 +58,13 @@ fmExponential s = do
   down ← exp2Of (Ieee.neg s)
   (up ⊖ down) ⊘ bits 0x3fb1_7218
 
+-- FM_MAX_HZ: 83,750
+abbrev pub fmMaxHz : Float
+fmMaxHz = bits 0x47a3_9300
+
 -- FM_MAX_HZ / self.rate, the rate being the host's times the factor
 unfoldable pub fmScale : ℕ → ℕ → Float
-fmScale rate factor = bits 0x47a3_9300 ⊘ whole (rate * factor)
+fmScale rate factor = fmMaxHz ⊘ whole (rate * factor)
 
 -- a * a * a * a * (FM_MAX_HZ / self.rate) * s
 unfoldable pub fmCycles : Float → Float → Float → Float

@@ -3,7 +3,7 @@ use Prim.Native.Nat.{ℕ}
 use mathlib.Core.List.{List, [], _∷_}
 use lib.Ieee as Ieee
 use lib.Ieee.{Float}
-use Rattle.floats.specs.F32.{_⊕_, _⊖_, _⊗_, _⊘_, bits, 0f, 1f, 2f, half, quarter, tau}
+use Rattle.floats.specs.F32.{_⊕_, _⊖_, _⊗_, _⊘_, bits, 0f, 1f, 2f, 4f, half, quarter, tau}
 use Rattle.floats.specs.Steps.{_>>=_}
 use Rattle.floats.specs.Floor.{floorOf}
 use Rattle.floats.specs.Sign.{absOf}
@@ -23,9 +23,6 @@ valveBias = bits 0x3e80_0000
 -- 1.0 / (1.0 - VALVE_TANH_BIAS * VALVE_TANH_BIAS)
 abbrev pub valveScale : Float
 valveScale = 1f ⊘ (1f ⊖ valveTanhBias ⊗ valveTanhBias)
-
-abbrev pub 4f : Float
-4f = bits 0x4080_0000
 
 abbrev pub 27f : Float
 27f = bits 0x41d8_0000

@@ -3,7 +3,7 @@ use Prim.Native.Nat.{ℕ}
 use mathlib.Core.List.{List, [], _∷_}
 use lib.Ieee as Ieee
 use lib.Ieee.{Float}
-use Rattle.floats.specs.F32.{_⊕_, _⊖_, _⊗_, _⊘_, bits, 0f, 1f, 2f, half, quarter, tau}
+use Rattle.floats.specs.F32.{_⊕_, _⊖_, _⊗_, _⊘_, bits, 0f, 1f, 2f, 4f, half, quarter, tau}
 use Rattle.floats.specs.Steps.{_>>=_}
 use Rattle.floats.specs.Floor.{floorOf}
 use Rattle.floats.specs.Sign.{absOf}
@@ -13,7 +13,7 @@ use Rattle.lanes.specs.Maths.{cosCycles, expOf, lnOf, lnCosh}
 use Rattle.modes.specs.Mode.{numberOf, Valve, SoftClip, HardClip, Diode1, Diode2, Fold, SineFold, ZeroSquare, Asymmetric, Rectify, SineShaper, Pedal, Tape, SoftSaturate}
 use Rattle.modes.specs.Choice.{Case, _⇒_, caseOf}
 use Rattle.wave.specs.Filter.{pi}
-use Rattle.wave.specs.Curve.{valveTanhBias, valveBias, valveScale, 4f, 27f, within, threeHalves, fracPi2}
+use Rattle.wave.specs.Curve.{valveTanhBias, valveBias, valveScale, 27f, within, threeHalves, fracPi2}
 
 -- VALVE_LN_COSH_BIAS
 abbrev pub valveLnCoshBias : Float
