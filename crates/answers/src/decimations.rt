@@ -1,7 +1,9 @@
 // Runs of the decimator: a call whose designs, buffer and state are remade from a seed, and a hash of
 // what it leaves.
 use crate::answer::float;
-use crate::answer::pattern;
+use crate::cells::Kind;
+use crate::cells::draw_cells;
+use crate::cells::folded_cells;
 use crate::random::folded;
 use crate::random::next;
 use floats::nearest_u32;
@@ -25,7 +27,7 @@ fn special(draw: u32) -> f32 {
 }
 
 // A sample or a cell of the state: with an odd seed an eighth each is special or any pattern.
-fn cell(seed: u32, draw: u32) -> f32 {
+pub fn cell(seed: u32, draw: u32) -> f32 {
     let kind = if seed % 2 == 0 { 2 } else { draw % 8 };
     match kind {
         0 => special(draw),
@@ -35,32 +37,12 @@ fn cell(seed: u32, draw: u32) -> f32 {
 }
 
 // A coefficient: from 0 to 1, and with an odd seed as a cell.
-fn coefficient(seed: u32, draw: u32) -> f32 {
+pub fn coefficient(seed: u32, draw: u32) -> f32 {
     if seed % 2 == 0 {
         nearest_u32(draw >> 8) / 16777216.0
     } else {
         cell(seed, draw)
     }
-}
-
-// Draws coefficients after the state `s`; gives the state after them.
-pub fn draw_coefs(seed: u32, s: u32, coefs: &mut [f32; 36]) -> u32 {
-    let mut s = s;
-    for i in 0..36usize {
-        s = next(s);
-        coefs[i] = coefficient(seed, s);
-    }
-    s
-}
-
-// The same with cells.
-fn draw_cells(seed: u32, s: u32, cells: &mut [f32]) -> u32 {
-    let mut s = s;
-    for i in 0..cells.len() {
-        s = next(s);
-        cells[i] = cell(seed, s);
-    }
-    s
 }
 
 // The card's designs for a quarter of the seeds; otherwise the drawn ones, with counts from 1 to 12.
@@ -72,15 +54,6 @@ pub fn designs(seed: u32, counts: u32, coefs: &[f32; 36]) -> Designs {
     let count1 = 1 + counts / 0x1_0000 % 0x100 % 12;
     let count2 = 1 + counts / 0x100_0000 % 12;
     designs_of(coefs, count0, count1, count2)
-}
-
-// Cells' patterns put to the hash.
-pub fn folded_cells(h: u64, cells: &[f32]) -> u64 {
-    let mut h = h;
-    for i in 0..cells.len() {
-        h = folded(h, pattern(cells[i]));
-    }
-    h
 }
 
 // The numbers of a call but for its designs' counts.
@@ -99,9 +72,9 @@ pub fn decimate_hash(run: DecimateRun) -> u64 {
     let mut coefs = [0.0; 36];
     let mut buffer = [0.0; 2048];
     let mut state = [0.0; 640];
-    let s = draw_coefs(seed, counts, &mut coefs);
-    let s = draw_cells(seed, s, &mut buffer);
-    let _ = draw_cells(seed, s, &mut state);
+    let s = draw_cells(seed, Kind::Coefficient, counts, &mut coefs);
+    let s = draw_cells(seed, Kind::Decimated, s, &mut buffer);
+    let _ = draw_cells(seed, Kind::Decimated, s, &mut state);
     let designs = designs(seed, counts, &coefs);
     let answer = process(
         designs,

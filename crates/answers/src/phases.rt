@@ -2,6 +2,8 @@
 // cases are remade from a seed.
 use crate::answer::float;
 use crate::answer::pattern;
+use crate::cells::Kind;
+use crate::cells::draw_cells;
 use crate::random::ModesRun;
 use crate::random::folded;
 use crate::random::next;
@@ -92,7 +94,7 @@ fn fact(op: u32, mode: u32) -> u32 {
 
 // An entry of the table that the steepest slope is taken of: with an odd seed some are NaN and some
 // negative.
-fn slope_entry(seed: u32, draw: u32, size: f32) -> f32 {
+pub fn slope_entry(seed: u32, draw: u32, size: f32) -> f32 {
     let x = nearest_u32(draw >> 8) / size;
     if seed % 2 == 0 {
         return x;
@@ -108,11 +110,7 @@ fn slope_entry(seed: u32, draw: u32, size: f32) -> f32 {
 pub fn slope_table(seed: u32) -> [f32; 1025] {
     let size = float((157 + seed / 2 % 8) * 0x80_0000);
     let mut t = [0.0; 1025];
-    let mut s = seed;
-    for i in 0..1025usize {
-        s = next(s);
-        t[i] = slope_entry(seed, s, size);
-    }
+    let _ = draw_cells(seed, Kind::Entry(size), seed, &mut t);
     t
 }
 

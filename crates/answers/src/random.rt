@@ -1,6 +1,7 @@
 // Inputs remade from a seed, and a hash of what they give.
 use crate::answer::answer;
-use floats::nearest_u32;
+use crate::cells::Kind;
+use crate::cells::draw_cells;
 ghost use mathlib.Core.Path.{_≡_};
 ghost use Prim.Native.Nat.{_*_, _%_, _^_};
 ghost use lib.Bits.{bitXor};
@@ -91,13 +92,9 @@ pub fn hash(powers: &[u32; 257], table: &[f32; 1025], run: Run) -> u64
     h
 }
 
-// The table that `lookup` reads: 1,025 numbers from 0 to 1.
+// The table that `lookup` reads: 1,025 numbers from 0 to 1, as an even seed's coefficients.
 pub fn table() -> [f32; 1025] {
     let mut t = [0.0; 1025];
-    let mut s = 0x5eed;
-    for i in 0..1025usize {
-        s = next(s);
-        t[i] = nearest_u32(s >> 8) / 16777216.0;
-    }
+    let _ = draw_cells(0, Kind::Coefficient, 0x5eed, &mut t);
     t
 }

@@ -1,9 +1,9 @@
 // The cells of a block's buffers, made of draws: at the most four lanes and 40 host frames.
-use crate::cells::Kind;
-use crate::cells::draw_kind;
 use crate::numbers::plus;
 use crate::numbers::step_of;
-use answers::decimations::folded_cells;
+use answers::cells::Kind;
+use answers::cells::draw_cells;
+use answers::cells::folded_cells;
 use answers::phases::slope_table;
 use answers::random::next;
 ghost use Prim.Native.Nat.{_<_};
@@ -19,8 +19,8 @@ pub fn curve_of(table: &[f32; 1025], seed: u32) -> [f32; 1025] {
 
 // Draws what is only read after the state `s`; gives the state after it.
 pub fn draw_inputs(seed: u32, s: u32, controls: &mut [f32; 648], cycle: &mut [f32; 2048]) -> u32 {
-    let s = draw_kind(seed, Kind::Controls(328), s, controls);
-    draw_kind(seed, Kind::Sample, s, cycle)
+    let s = draw_cells(seed, Kind::Controls(328), s, controls);
+    draw_cells(seed, Kind::Sample, s, cycle)
 }
 
 // The same with the spans.
@@ -31,9 +31,9 @@ pub fn draw_spans(
     stretch: &mut [f32; 8],
     add: &mut [f32; 8],
 ) -> u32 {
-    let s = draw_kind(seed, Kind::Stretch, s, inner);
-    let s = draw_kind(seed, Kind::Stretch, s, stretch);
-    draw_kind(seed, Kind::Slope, s, add)
+    let s = draw_cells(seed, Kind::Stretch, s, inner);
+    let s = draw_cells(seed, Kind::Stretch, s, stretch);
+    draw_cells(seed, Kind::Slope, s, add)
 }
 
 // The same with what a call changes.
@@ -47,12 +47,12 @@ pub fn draw_voices(
     last: &mut [f32; 4],
     state: &mut [f32; 288],
 ) -> u32 {
-    let s = draw_kind(seed, Kind::Sample, s, output);
-    let s = draw_kind(seed, Kind::Sample, s, work);
-    let s = draw_kind(seed, Kind::Sample, s, pairs);
-    let s = draw_kind(seed, Kind::Half, s, fm);
-    let s = draw_kind(seed, Kind::Sample, s, last);
-    draw_kind(seed, Kind::Sample, s, state)
+    let s = draw_cells(seed, Kind::Sample, s, output);
+    let s = draw_cells(seed, Kind::Sample, s, work);
+    let s = draw_cells(seed, Kind::Sample, s, pairs);
+    let s = draw_cells(seed, Kind::Half, s, fm);
+    let s = draw_cells(seed, Kind::Sample, s, last);
+    draw_cells(seed, Kind::Sample, s, state)
 }
 
 // The same with steps.

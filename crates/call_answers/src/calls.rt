@@ -1,5 +1,4 @@
 // Calls about one lane or about a block's spans, made of draws: at the most four lanes and 72 host frames.
-use crate::cells::cell;
 use crate::numbers::Draws;
 use crate::numbers::Inputs;
 use crate::numbers::active_of;
@@ -15,6 +14,7 @@ use crate::numbers::plus;
 use crate::numbers::put;
 use crate::numbers::rate_of;
 use crate::numbers::step_of;
+use answers::cells::cell;
 use answers::phases::around;
 use answers::random::ModesRun;
 use answers::waves::sample;

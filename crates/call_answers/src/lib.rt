@@ -4,7 +4,8 @@
 pub mod block_calls;
 pub mod block_cells;
 pub mod calls;
-pub mod cells;
 pub mod numbers;
+pub mod parts;
+pub mod runs;
 pub mod singles;
 pub mod stretches;

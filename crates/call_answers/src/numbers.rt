@@ -1,6 +1,6 @@
 // The numbers that calls about a lane, about a block's spans and about its ranges are made of alike: draws,
 // and what is made of one draw. Some calls have a fault, so that they are turned down.
-use crate::cells::cell;
+use answers::cells::cell;
 use answers::phases::fraction;
 use answers::random::next;
 ghost use mathlib.Core.Path.{_≡_};

@@ -4,13 +4,13 @@ use crate::calls::Call;
 use crate::calls::Lent;
 use crate::calls::call_of;
 use crate::calls::lent_of;
-use crate::cells::Kind;
-use crate::cells::draw_kind;
-use crate::cells::part;
 use crate::numbers::Draws;
 use crate::numbers::drawn;
+use crate::parts::part;
 use answers::answer::pattern;
-use answers::decimations::folded_cells;
+use answers::cells::Kind;
+use answers::cells::draw_cells;
+use answers::cells::folded_cells;
 use answers::phases::folded_reads;
 use answers::random::ModesRun;
 use answers::random::folded;
@@ -106,10 +106,10 @@ pub fn reads_lane_hash(table: &[f32; 1025], run: ModesRun) -> u64 {
     let mut inner = [0.0; 12];
     let mut fm = [0.0; 8];
     let mut last = [0.0; 4];
-    let mut s = draw_kind(seed, Kind::Controls(584), seed, &mut controls);
-    s = draw_kind(seed, Kind::Stretch, s, &mut inner);
-    s = draw_kind(seed, Kind::Half, s, &mut fm);
-    s = draw_kind(seed, Kind::Sample, s, &mut last);
+    let mut s = draw_cells(seed, Kind::Controls(584), seed, &mut controls);
+    s = draw_cells(seed, Kind::Stretch, s, &mut inner);
+    s = draw_cells(seed, Kind::Half, s, &mut fm);
+    s = draw_cells(seed, Kind::Sample, s, &mut last);
     let mut h: u64 = 0xcbf2_9ce4_8422_2325;
     for _ in 0..count {
         let d = drawn(s);
@@ -181,9 +181,9 @@ pub fn shape_lane_hash(run: ModesRun) -> u64 {
     let mut controls = [0.0; 1160];
     let mut pairs = [0.0; 16];
     let mut last = [0.0; 4];
-    let mut s = draw_kind(seed, Kind::Controls(584), seed, &mut controls);
-    s = draw_kind(seed, Kind::Sample, s, &mut pairs);
-    s = draw_kind(seed, Kind::Sample, s, &mut last);
+    let mut s = draw_cells(seed, Kind::Controls(584), seed, &mut controls);
+    s = draw_cells(seed, Kind::Sample, s, &mut pairs);
+    s = draw_cells(seed, Kind::Sample, s, &mut last);
     let mut h: u64 = 0xcbf2_9ce4_8422_2325;
     for _ in 0..count {
         let d = drawn(s);

@@ -3,14 +3,14 @@ use crate::calls::Call;
 use crate::calls::Lent;
 use crate::calls::call_of;
 use crate::calls::lent_of;
-use crate::cells::Kind;
-use crate::cells::draw_kind;
-use crate::cells::part;
 use crate::numbers::Draws;
 use crate::numbers::Inputs;
 use crate::numbers::drawn;
+use crate::parts::part;
 use crate::singles::folded_value;
-use answers::decimations::folded_cells;
+use answers::cells::Kind;
+use answers::cells::draw_cells;
+use answers::cells::folded_cells;
 use answers::phases::slope_table;
 use answers::random::ModesRun;
 use answers::random::folded;
@@ -88,10 +88,10 @@ pub fn prepare_hash(run: ModesRun) -> u64 {
     let mut inner = [0.0; 12];
     let mut stretch = [0.0; 12];
     let mut add = [0.0; 12];
-    let mut s = draw_kind(seed, Kind::Controls(584), seed, &mut controls);
-    s = draw_kind(seed, Kind::Stretch, s, &mut inner);
-    s = draw_kind(seed, Kind::Stretch, s, &mut stretch);
-    s = draw_kind(seed, Kind::Slope, s, &mut add);
+    let mut s = draw_cells(seed, Kind::Controls(584), seed, &mut controls);
+    s = draw_cells(seed, Kind::Stretch, s, &mut inner);
+    s = draw_cells(seed, Kind::Stretch, s, &mut stretch);
+    s = draw_cells(seed, Kind::Slope, s, &mut add);
     let mut h: u64 = 0xcbf2_9ce4_8422_2325;
     for _ in 0..count {
         let d = drawn(s);
@@ -166,8 +166,8 @@ pub fn stretch_hash(run: ModesRun) -> u64 {
     let count = run.count % 0x1_0000;
     let mut rows = [0.0; 12];
     let mut add = [0.0; 12];
-    let mut s = draw_kind(seed, Kind::Stretch, seed, &mut rows);
-    s = draw_kind(seed, Kind::Slope, s, &mut add);
+    let mut s = draw_cells(seed, Kind::Stretch, seed, &mut rows);
+    s = draw_cells(seed, Kind::Slope, s, &mut add);
     let mut h: u64 = 0xcbf2_9ce4_8422_2325;
     for _ in 0..count {
         let d = drawn(s);

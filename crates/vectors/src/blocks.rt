@@ -3,8 +3,9 @@
 // lanes and 40 host frames. Some calls are made to be turned down.
 use crate::settings::block_of;
 use crate::settings::faulted;
+use answers::cells::Kind;
+use answers::cells::draw_cells;
 use answers::decimations::designs;
-use answers::decimations::draw_coefs;
 use answers::random::ModesRun;
 use answers::random::folded;
 use answers::random::next;
@@ -20,8 +21,6 @@ use call_answers::block_cells::draw_steps;
 use call_answers::block_cells::draw_voices;
 use call_answers::block_cells::draw_words;
 use call_answers::block_cells::folded_voices;
-use call_answers::cells::part;
-use call_answers::cells::part_words;
 use call_answers::numbers::Draws;
 use call_answers::numbers::Inputs;
 use call_answers::numbers::active_of;
@@ -30,6 +29,8 @@ use call_answers::numbers::below;
 use call_answers::numbers::drawn;
 use call_answers::numbers::inputs_of;
 use call_answers::numbers::plus;
+use call_answers::parts::part;
+use call_answers::parts::part_words;
 use call_answers::stretches::prepared;
 use limits::Answer;
 use shaper::Range;
@@ -211,7 +212,7 @@ pub fn block_hash(table: &[f32; 1025], run: ModesRun) -> u64 {
     let count = run.count % 0x1_0000;
     let counts = next(seed);
     let mut coefs = [0.0; 36];
-    let d = drawn(draw_coefs(seed, counts, &mut coefs));
+    let d = drawn(draw_cells(seed, Kind::Coefficient, counts, &mut coefs));
     let b = block_of(run, d, designs(seed, counts, &coefs));
     let i = inputs_of(d.how, 160);
     let active = active_of(d.sizes, b.shaper.lanes);

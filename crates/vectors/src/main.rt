@@ -8,14 +8,14 @@ mod settings;
 mod text;
 
 use answers::answer::answer;
-use answers::decimations::DecimateRun;
 use answers::random::ModesRun;
-use answers::random::Run;
-use answers::waves::WaveRun;
+use answers::runs::Hashed;
+use answers::runs::modes_run;
+use answers::runs::ran;
+use blocks::block_hash;
 use boundaries::BOUNDARIES;
 use boundaries::boundaries_kept;
-use call_answers::singles;
-use call_answers::stretches;
+use call_answers::runs::calls_hash;
 use floats::POWERS;
 use libc::STDIN_FILENO;
 use libc::STDOUT_FILENO;
@@ -30,87 +30,26 @@ struct Tally {
     total: u64,
 }
 
-// A run's cases, and the hash of its answers.
-struct Hashed {
-    count: u64,
-    hash: u64,
-}
-
-// One call of the decimator.
-fn decimated(a: u32, b: u32) -> Hashed {
-    let run = DecimateRun {
-        factor: b / 0x100_0000,
-        lanes: b / 0x1_0000 % 0x100,
-        active: b / 0x100 % 0x100,
-        frames: b % 0x100,
-        seed: a,
-    };
-    Hashed {
-        count: 1,
-        hash: answers::decimations::decimate_hash(run),
-    }
-}
-
-fn modes_run(a: u32, b: u32) -> ModesRun {
-    ModesRun {
-        mode0: b / 0x1_0000 % 0x100,
-        mode1: b / 0x100_0000,
-        seed: a,
-        count: b % 0x1_0000,
-    }
-}
-
 // Calls about one lane, about a block's spans or about its ranges.
-fn called(table: &[f32; 1025], op: u32, a: u32, b: u32) -> Hashed {
-    let run = modes_run(a, b);
-    let hash = match op {
-        0x50 => singles::reads_lane_hash(table, run),
-        0x51 => singles::shape_lane_hash(run),
-        0x52 => stretches::prepare_hash(run),
-        0x53 => stretches::stretch_hash(run),
-        _ => blocks::block_hash(table, run),
-    };
+fn called(table: &[f32; 1025], op: u32, run: ModesRun) -> Hashed {
     Hashed {
         count: run.count as u64,
-        hash,
+        hash: if op < 0x54 {
+            calls_hash(table, op, run)
+        } else {
+            block_hash(table, run)
+        },
     }
 }
 
-// A run of read lists has two modes beside its count, one of a sequence of samples a mode and a flag.
-fn ran(powers: &[u32; 257], table: &[f32; 1025], op: u32, a: u32, b: u32) -> Hashed
+// A run of cases; from 0x50 on they are calls.
+fn hashed(powers: &[u32; 257], table: &[f32; 1025], op: u32, a: u32, b: u32) -> Hashed
     requires { ⌜ now powers ≡ entries ⌝ }
 {
-    if op == 0x29 {
-        let run = modes_run(a, b);
-        Hashed {
-            count: run.count as u64,
-            hash: answers::phases::reads_hash(powers, table, run),
-        }
-    } else if op == 0x36 {
-        let run = WaveRun {
-            slot: b / 0x100_0000,
-            mode: b / 0x1_0000 % 0x100,
-            seed: a,
-            count: b % 0x1_0000,
-        };
-        Hashed {
-            count: run.count as u64,
-            hash: answers::waves::wave_hash(powers, run),
-        }
-    } else if op == 0x40 {
-        decimated(a, b)
-    } else if op >= 0x50 {
-        called(table, op, a, b)
+    if op < 0x50 {
+        ran(powers, table, op, a, b)
     } else {
-        let run = Run {
-            op,
-            seed: a,
-            count: b,
-        };
-        Hashed {
-            count: b as u64,
-            hash: answers::random::hash(powers, table, run),
-        }
+        called(table, op, modes_run(a, b))
     }
 }
 
@@ -130,7 +69,7 @@ fn replay(powers: &[u32; 257], table: &[f32; 1025], line: &[u8; 39]) -> Tally
             total: 1,
         }
     } else {
-        let run = ran(powers, table, op - 0x80, a, b);
+        let run = hashed(powers, table, op - 0x80, a, b);
         let right = run.hash == ((c as u64) << 32) + (e as u64);
         Tally {
             passed: if right { run.count } else { 0 },

@@ -10,23 +10,23 @@ Inv-loop run seed count controls pairs₀ last₀ s₀ h₀ counter₀ pairs las
 abbrev μ-loop : tie.MeasureT-loop
 μ-loop run seed count controls pairs₀ last₀ s₀ h₀ counter₀ pairs last s h counter = count - counter
 
-slice-aggregate-draw-kind : tie.Need-slice-aggregate-draw-kind Inv-loop μ-loop
-slice-aggregate-draw-kind c = search needs
+slice-aggregate-draw-cells : tie.Need-slice-aggregate-draw-cells Inv-loop μ-loop
+slice-aggregate-draw-cells c = search needs
 
-draw-kind-requires : tie.Need-draw-kind-requires Inv-loop μ-loop
-draw-kind-requires c κs = search needs
+draw-cells-requires : tie.Need-draw-cells-requires Inv-loop μ-loop
+draw-cells-requires c κs = search needs
 
-slice-aggregate-draw-kind-2 : tie.Need-slice-aggregate-draw-kind-2 Inv-loop μ-loop
-slice-aggregate-draw-kind-2 c = search needs
+slice-aggregate-draw-cells-2 : tie.Need-slice-aggregate-draw-cells-2 Inv-loop μ-loop
+slice-aggregate-draw-cells-2 c = search needs
 
-draw-kind-requires-2 : tie.Need-draw-kind-requires-2 Inv-loop μ-loop
-draw-kind-requires-2 c κs = search needs
+draw-cells-requires-2 : tie.Need-draw-cells-requires-2 Inv-loop μ-loop
+draw-cells-requires-2 c κs = search needs
 
-slice-aggregate-draw-kind-3 : tie.Need-slice-aggregate-draw-kind-3 Inv-loop μ-loop
-slice-aggregate-draw-kind-3 c = search needs
+slice-aggregate-draw-cells-3 : tie.Need-slice-aggregate-draw-cells-3 Inv-loop μ-loop
+slice-aggregate-draw-cells-3 c = search needs
 
-draw-kind-requires-3 : tie.Need-draw-kind-requires-3 Inv-loop μ-loop
-draw-kind-requires-3 c κs = search needs
+draw-cells-requires-3 : tie.Need-draw-cells-requires-3 Inv-loop μ-loop
+draw-cells-requires-3 c κs = search needs
 
 loop-holds : tie.Need-loop-holds Inv-loop μ-loop
 loop-holds c = search needs
@@ -55,12 +55,12 @@ shape-lane-hash-spec =
     (tie.spec
     Inv-loop
     μ-loop
-    slice-aggregate-draw-kind
-    draw-kind-requires
-    slice-aggregate-draw-kind-2
-    draw-kind-requires-2
-    slice-aggregate-draw-kind-3
-    draw-kind-requires-3
+    slice-aggregate-draw-cells
+    draw-cells-requires
+    slice-aggregate-draw-cells-2
+    draw-cells-requires-2
+    slice-aggregate-draw-cells-3
+    draw-cells-requires-3
     loop-holds
     drawn-requires
     shape-turn-requires

@@ -13,29 +13,29 @@ abbrev μ-loop : tie.MeasureT-loop
 slope-table-requires : tie.Need-slope-table-requires Inv-loop μ-loop
 slope-table-requires c κs = search needs
 
-slice-aggregate-draw-kind : tie.Need-slice-aggregate-draw-kind Inv-loop μ-loop
-slice-aggregate-draw-kind c = search needs
+slice-aggregate-draw-cells : tie.Need-slice-aggregate-draw-cells Inv-loop μ-loop
+slice-aggregate-draw-cells c = search needs
 
-draw-kind-requires : tie.Need-draw-kind-requires Inv-loop μ-loop
-draw-kind-requires c κs = search needs
+draw-cells-requires : tie.Need-draw-cells-requires Inv-loop μ-loop
+draw-cells-requires c κs = search needs
 
-slice-aggregate-draw-kind-2 : tie.Need-slice-aggregate-draw-kind-2 Inv-loop μ-loop
-slice-aggregate-draw-kind-2 c = search needs
+slice-aggregate-draw-cells-2 : tie.Need-slice-aggregate-draw-cells-2 Inv-loop μ-loop
+slice-aggregate-draw-cells-2 c = search needs
 
-draw-kind-requires-2 : tie.Need-draw-kind-requires-2 Inv-loop μ-loop
-draw-kind-requires-2 c κs = search needs
+draw-cells-requires-2 : tie.Need-draw-cells-requires-2 Inv-loop μ-loop
+draw-cells-requires-2 c κs = search needs
 
-slice-aggregate-draw-kind-3 : tie.Need-slice-aggregate-draw-kind-3 Inv-loop μ-loop
-slice-aggregate-draw-kind-3 c = search needs
+slice-aggregate-draw-cells-3 : tie.Need-slice-aggregate-draw-cells-3 Inv-loop μ-loop
+slice-aggregate-draw-cells-3 c = search needs
 
-draw-kind-requires-3 : tie.Need-draw-kind-requires-3 Inv-loop μ-loop
-draw-kind-requires-3 c κs = search needs
+draw-cells-requires-3 : tie.Need-draw-cells-requires-3 Inv-loop μ-loop
+draw-cells-requires-3 c κs = search needs
 
-slice-aggregate-draw-kind-4 : tie.Need-slice-aggregate-draw-kind-4 Inv-loop μ-loop
-slice-aggregate-draw-kind-4 c = search needs
+slice-aggregate-draw-cells-4 : tie.Need-slice-aggregate-draw-cells-4 Inv-loop μ-loop
+slice-aggregate-draw-cells-4 c = search needs
 
-draw-kind-requires-4 : tie.Need-draw-kind-requires-4 Inv-loop μ-loop
-draw-kind-requires-4 c κs = search needs
+draw-cells-requires-4 : tie.Need-draw-cells-requires-4 Inv-loop μ-loop
+draw-cells-requires-4 c κs = search needs
 
 loop-holds : tie.Need-loop-holds Inv-loop μ-loop
 loop-holds c = search needs
@@ -65,14 +65,14 @@ prepare-hash-spec =
     Inv-loop
     μ-loop
     slope-table-requires
-    slice-aggregate-draw-kind
-    draw-kind-requires
-    slice-aggregate-draw-kind-2
-    draw-kind-requires-2
-    slice-aggregate-draw-kind-3
-    draw-kind-requires-3
-    slice-aggregate-draw-kind-4
-    draw-kind-requires-4
+    slice-aggregate-draw-cells
+    draw-cells-requires
+    slice-aggregate-draw-cells-2
+    draw-cells-requires-2
+    slice-aggregate-draw-cells-3
+    draw-cells-requires-3
+    slice-aggregate-draw-cells-4
+    draw-cells-requires-4
     loop-holds
     drawn-requires
     prepare-turn-requires

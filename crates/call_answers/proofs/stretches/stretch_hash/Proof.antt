@@ -10,17 +10,17 @@ Inv-loop run seed count rows add s₀ h₀ counter₀ s h counter = counter ≤ 
 abbrev μ-loop : tie.MeasureT-loop
 μ-loop run seed count rows add s₀ h₀ counter₀ s h counter = count - counter
 
-slice-aggregate-draw-kind : tie.Need-slice-aggregate-draw-kind Inv-loop μ-loop
-slice-aggregate-draw-kind c = search needs
+slice-aggregate-draw-cells : tie.Need-slice-aggregate-draw-cells Inv-loop μ-loop
+slice-aggregate-draw-cells c = search needs
 
-draw-kind-requires : tie.Need-draw-kind-requires Inv-loop μ-loop
-draw-kind-requires c κs = search needs
+draw-cells-requires : tie.Need-draw-cells-requires Inv-loop μ-loop
+draw-cells-requires c κs = search needs
 
-slice-aggregate-draw-kind-2 : tie.Need-slice-aggregate-draw-kind-2 Inv-loop μ-loop
-slice-aggregate-draw-kind-2 c = search needs
+slice-aggregate-draw-cells-2 : tie.Need-slice-aggregate-draw-cells-2 Inv-loop μ-loop
+slice-aggregate-draw-cells-2 c = search needs
 
-draw-kind-requires-2 : tie.Need-draw-kind-requires-2 Inv-loop μ-loop
-draw-kind-requires-2 c κs = search needs
+draw-cells-requires-2 : tie.Need-draw-cells-requires-2 Inv-loop μ-loop
+draw-cells-requires-2 c κs = search needs
 
 loop-holds : tie.Need-loop-holds Inv-loop μ-loop
 loop-holds c = search needs
@@ -58,10 +58,10 @@ stretch-hash-spec =
     (tie.spec
     Inv-loop
     μ-loop
-    slice-aggregate-draw-kind
-    draw-kind-requires
-    slice-aggregate-draw-kind-2
-    draw-kind-requires-2
+    slice-aggregate-draw-cells
+    draw-cells-requires
+    slice-aggregate-draw-cells-2
+    draw-cells-requires-2
     loop-holds
     drawn-requires
     call-of-requires

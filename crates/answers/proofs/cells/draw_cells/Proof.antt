@@ -1,11 +1,11 @@
--- `cells::draw_kind` is safe and ends. Assumes nothing.
+-- `cells::draw_cells` is safe and ends. Assumes nothing.
 use mathlib.Core.Path.{_≡_, refl}
 use Prim.Native.Nat.{_≤_, _-_}
 use lib.ListN.{length}
 use borrow.Author.Needs.{needs}
 use native.Mathlib.Omega.{arith}
-use Rattle.call_answers.proofs.cells.draw_kind.Statement.{statement}
-use Rattle.call_answers.proofs.cells.draw_kind.Tie as tie
+use Rattle.answers.proofs.cells.draw_cells.Statement.{statement}
+use Rattle.answers.proofs.cells.draw_cells.Tie as tie
 
 abbrev Inv-loop : tie.InvT-loop
 Inv-loop seed kind s cells₀ s₀ i₀ i-end cells s' i = (i ≤ i-end) × (i-end ≡ length cells₀) × (length cells ≡ length cells₀)
@@ -19,11 +19,8 @@ loop-holds c = (omega arith, refl, refl)
 next-requires : tie.Need-next-requires Inv-loop μ-loop
 next-requires c κs = search needs
 
-tame-requires : tie.Need-tame-requires Inv-loop μ-loop
-tame-requires c κs = search needs
-
-cell-requires : tie.Need-cell-requires Inv-loop μ-loop
-cell-requires c κs = search needs
+value-requires : tie.Need-value-requires Inv-loop μ-loop
+value-requires c κs = search needs
 
 mul-cells : tie.Need-mul-cells Inv-loop μ-loop
 mul-cells c = search needs
@@ -46,16 +43,15 @@ same-length c = search needs
 returns : tie.Need-returns Inv-loop μ-loop
 returns c = search needs
 
-pub draw-kind-spec : {M : Type 1} → statement M
-draw-kind-spec =
+pub draw-cells-spec : {M : Type 1} → statement M
+draw-cells-spec =
     tie.close
     (tie.spec
     Inv-loop
     μ-loop
     loop-holds
     next-requires
-    tame-requires
-    cell-requires
+    value-requires
     mul-cells
     slice-write-cells
     add-i

@@ -1,11 +1,11 @@
--- `decimations::folded_cells` is safe and ends. Assumes nothing.
+-- `cells::folded_cells` is safe and ends. Assumes nothing.
 use mathlib.Core.Path.{_≡_, refl}
 use Prim.Native.Nat.{_≤_, _-_}
 use lib.ListN.{length}
 use borrow.Author.Needs.{needs}
 use native.Mathlib.Omega.{arith}
-use Rattle.answers.proofs.decimations.folded_cells.Statement.{statement}
-use Rattle.answers.proofs.decimations.folded_cells.Tie as tie
+use Rattle.answers.proofs.cells.folded_cells.Statement.{statement}
+use Rattle.answers.proofs.cells.folded_cells.Tie as tie
 
 abbrev Inv-loop : tie.InvT-loop
 Inv-loop h cells h₀ i₀ i-end h' i = (i ≤ i-end) × (i-end ≡ length cells)
