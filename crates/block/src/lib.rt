@@ -2,11 +2,12 @@
 // rendered frame of each active lane, the decimation, and the copy to the range's output rows.
 pub mod refusal;
 pub mod run;
-pub mod slices;
+pub mod settings;
 
 pub use refusal::ReadLengths;
 pub use refusal::WriteLengths;
 pub use refusal::refused;
 pub use render::BlockSettings;
 pub use run::block_run;
-pub use slices::block_run_on;
+pub use settings::bare_settings;
+pub use settings::settings_of;

@@ -1,12 +1,21 @@
 // The block run.
+use block::ReadLengths;
+use block::WriteLengths;
+use block::bare_settings;
+use block::block_run;
+use block::refused;
+use block::settings_of;
 use limits::Answer;
+use limits::ControlLengths;
+use shaper::Range;
 ghost use lib.ListN.{length};
 ghost use Rattle.render.specs.Promises.{lent};
 ghost use Rattle.share.specs.Share.{buffers};
 ghost use Rattle.block.specs.Call.{called, Meets};
 ghost use Rattle.block.specs.Numbers.{settingsOf, rangeOf};
 
-// The block run, `block::block_run`, with coefficients and sine and arctangent numbers on slices.
+// `block::block_run` with coefficients and sine and arctangent numbers on slices, which are read once they
+// are known to be long enough.
 #[no_mangle]
 pub extern "C" fn shaper_block_run(
     mode0: u32,
@@ -50,23 +59,74 @@ pub extern "C" fn shaper_block_run(
         (buffers (now (output .entry)) (now (work .entry)) (now (pairs .entry)) (now (fm .entry)) (now (last .entry)) (now (state .entry)))
         (buffers (now (output .exit)) (now (work .exit)) (now (pairs .exit)) (now (fm .exit)) (now (last .exit)) (now (state .exit))) a) ⌝ }
 {
-    block::block_run_on(
+    let r = Range {
+        first: first,
+        count: count,
+    };
+    let bare = bare_settings(
         mode0,
         mode1,
         character0,
         character1,
         factor,
         lanes,
-        active,
         frames,
-        first,
-        count,
+        rate,
+        count0,
+        count1,
+        count2,
+    );
+    let reads = ReadLengths {
+        controls: ControlLengths {
+            base0: base0.len(),
+            base1: base1.len(),
+            mod0: mod0.len(),
+            mod1: mod1.len(),
+            source0: source0.len(),
+            source1: source1.len(),
+        },
+        curve: curve.len(),
+        cycle: cycle.len(),
+        words: words.len(),
+        steps: steps.len(),
+        inner: inner.len(),
+        coefs: coefs.len(),
+        numbers: numbers.len(),
+    };
+    let writes = WriteLengths {
+        output: output.len(),
+        work: work.len(),
+        pairs: pairs.len(),
+        fm: fm.len(),
+        last: last.len(),
+        dec: state.len(),
+    };
+    let number = refused(bare, r, active, reads, writes);
+    if number != 0 {
+        return Answer {
+            number: number,
+            frames: 0,
+        };
+    }
+    let b = settings_of(
+        mode0,
+        mode1,
+        character0,
+        character1,
+        factor,
+        lanes,
+        frames,
         rate,
         count0,
         count1,
         count2,
         coefs,
         numbers,
+    );
+    block_run(
+        b,
+        r,
+        active,
         base0,
         base1,
         mod0,

@@ -1,8 +1,8 @@
--- `slices::numbers_of` meets its contract. Assumes nothing.
+-- `settings::numbers_of` meets its contract. Assumes nothing.
 use borrow.Author.Needs.{needs}
 use Rattle.block.proofs.NumberLaws.{numbers-taken}
-use Rattle.block.proofs.slices.numbers_of.Statement.{statement}
-use Rattle.block.proofs.slices.numbers_of.Tie as tie
+use Rattle.block.proofs.settings.numbers_of.Statement.{statement}
+use Rattle.block.proofs.settings.numbers_of.Tie as tie
 
 returns : tie.Need-returns
 returns c = numbers-taken _ (c .before .before .before .before .before .before .before .before .before .before .before .before .before .pre)

@@ -1,4 +1,4 @@
--- `slices::block_run_on` meets its contract. Assumes nothing.
+-- `run::shaper_block_run` meets its contract. Assumes nothing.
 use mathlib.Core.Path.{_≡_, sym, _∙_}
 use borrow.Author.Needs.{needs}
 use lib.ListN.{length}
@@ -6,14 +6,14 @@ use Rattle.render.specs.declared.state.BlockSettings.{BlockSettings}
 use Rattle.render.specs.Lane.{Lent}
 use Rattle.share.specs.Share.{Buffers, buffers}
 use Rattle.render.specs.Promises.{lent}
 use Rattle.block.specs.Refusal.{blockRefusal}
 use Rattle.block.specs.Call.{readLengths, writeLengths}
 use Rattle.block.specs.Numbers.{settingsOf, rangeOf}
 use Rattle.block.proofs.RefusalLaws.{passed, whole-slices}
 use Rattle.block.proofs.CallLaws.{meets-refused, on-slices}
 use Rattle.block.proofs.NumberLaws.{same-number}
-use Rattle.block.proofs.slices.block_run_on.Statement.{statement}
-use Rattle.block.proofs.slices.block_run_on.Tie as tie
+use Rattle.card.proofs.run.shaper_block_run.Statement.{statement}
+use Rattle.card.proofs.run.shaper_block_run.Tie as tie
 
 -- the settings; what is lent to read, and to write
 abbrev settings : tie.Start → BlockSettings
@@ -27,7 +27,7 @@ reads c =
     lent (a .base0 .now) (a .base1 .now) (a .mod0 .now) (a .mod1 .now) (a .source0 .now) (a .source1 .now) (a .curve .now) (a .cycle .now) (a .words .now) (a .steps .now) (a .inner .now)
 
 abbrev writes : tie.Start → Buffers
-writes c = let a = c .args in buffers (a .output .now) (a .work .now) (a .pairs .now) (a .fm .now) (a .last .now) (a .dec .now)
+writes c = let a = c .args in buffers (a .output .now) (a .work .now) (a .pairs .now) (a .fm .now) (a .last .now) (a .state .now)
 
 abbrev start : tie.After-refused → tie.Start
 start c = c .before .before .before .before .before .before .before .before .before .before .before .before .before .before .before .before .before .before .before .before .before
@@ -63,8 +63,8 @@ returns-2 c =
     (length (o .args .numbers .now)) (reads o) (writes o) (c .before .before .before .before .before .before .before .before .before .before .before .before .before .before .before .before .before .before .before .settings-of .ensures)
     (sym (number (e .before)) ∙ e .if1 .left) (c .before .before .before .before .before .before .before .before .before .before .before .before .block-run .ensures)
 
-pub block-run-on-spec : {M : Type 1} → statement M
-block-run-on-spec =
+pub shaper-block-run-spec : {M : Type 1} → statement M
+shaper-block-run-spec =
     tie.close
     (tie.spec
     (λ c κs. search needs)

@@ -1,8 +1,8 @@
--- `slices::settings_of` meets its contract. Assumes nothing.
+-- `settings::settings_of` meets its contract. Assumes nothing.
 use borrow.Author.Needs.{needs}
 use Rattle.block.specs.Numbers.{settingsOf}
-use Rattle.block.proofs.slices.settings_of.Statement.{statement}
-use Rattle.block.proofs.slices.settings_of.Tie as tie
+use Rattle.block.proofs.settings.settings_of.Statement.{statement}
+use Rattle.block.proofs.settings.settings_of.Tie as tie
 
 returns : tie.Need-returns
 unfolding settingsOf
