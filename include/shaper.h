@@ -74,7 +74,7 @@ enum shaper_mode {
 #define SHAPER_MAX_RATE 192000
 #define SHAPER_DESIGNS 3    /* the decimator's */
 #define SHAPER_MAX_COUNT 12 /* a design's count is 1 to this */
-#define SHAPER_SLOTS 2      /* slot 0 shapes first */
+#define SHAPER_SLOTS 2      /* slot 1 shapes what slot 0 made */
 #define SHAPER_SUB_BLOCK 32 /* host frames that share a row of a span */
 
 /* How many numbers a buffer has at least, by the buffer's name: an array's size where the arguments are constant. Those

@@ -4,11 +4,12 @@
  *
  * All buffers are the caller's, and each travels with its length:
  *
- *     .output = SHAPER_CELLS(output)                               an array, where a struct is initialised
- *     block.output = shaper_write_to(output, length);              a pointer and a length, anywhere
+ *     .output = SHAPER_CELLS(output)                     an array, where a struct is initialised
+ *     block.output = shaper_write_to(output, length);    a pointer and a length, anywhere
  *
- * Start from zeros, `{0}` in C and `{}` in C++. Left at zeros, a mode is Off and a modulation or a source is absent.
- * Without frames or active lanes a call does nothing. Anything else that is left out is refused. */
+ * Start from zeros, `{0}` in C and `{}` in C++. Left at zeros, a mode is Off, a modulation or a source is absent, and
+ * without frames or active lanes nothing is prepared or run. Other numbers and buffers that are left out are refused.
+ */
 #ifndef SHAPER_BLOCK_H
 #define SHAPER_BLOCK_H
 
@@ -59,7 +60,7 @@ static inline struct shaper_writable shaper_write_to(float *cells, size_t length
 /* What shapes the cycle. A slot that is off needs a base as well. */
 struct shaper_slot {
     uint32_t mode;                 /* enum shaper_mode */
-    float character;               /* 0 to 1, for the modes that have one */
+    float character;               /* 0 to 1: the softness of Sync, the resonance of the filters */
     struct shaper_readable base;   /* SHAPER_BASE(lanes): the amount in percent, knob plus the lane's offset */
     struct shaper_readable mod;    /* SHAPER_MOD(frames, lanes) or empty: what is added to it, by host frame */
     struct shaper_readable source; /* SHAPER_SOURCE(frames, lanes) or empty: what the slot hears, by host frame */
@@ -67,10 +68,10 @@ struct shaper_slot {
 
 struct shaper_block {
     uint32_t factor; /* rendered frames to a host frame: 1, 2, 4 or 8 */
-    uint32_t lanes;  /* numbers in a row */
+    uint32_t lanes;  /* numbers in a row, 1 to SHAPER_MAX_LANES */
     uint32_t active; /* the lanes that take part, the first ones */
-    uint32_t frames; /* the block's host frames */
-    uint32_t rate;   /* the host rate in hertz */
+    uint32_t frames; /* the block's host frames, 0 to SHAPER_MAX_FRAMES */
+    uint32_t rate;   /* the host rate in whole hertz, SHAPER_MIN_RATE to SHAPER_MAX_RATE */
     struct shaper_slot slot[SHAPER_SLOTS];
 
     /* The tables: the remap curve, SHAPER_CURVE, and one cycle of the wave, SHAPER_CYCLE. */
@@ -83,7 +84,7 @@ struct shaper_block {
     /* SHAPER_SPAN(frames, lanes) each, which shaper_prepare_block writes and the block's other calls read: they stay as
      * they are until the block is done. A run reads inner, slot 1's steepest slope, by which the crossfades of slot 0
      * widen. shaper_stretch_block reads stretch and add, how steep both slots read the cycle and what their sources
-     * add: a host picks one of several band-limited cycles by it. With a single cycle both are lent all the same. */
+     * add, for a host that picks one of several band-limited cycles. One that has a single cycle lends both, too. */
     struct shaper_writable inner, stretch, add;
 
     /* SHAPER_OUTPUT(frames, lanes): the shaped samples, by host frame. */
