@@ -1,9 +1,10 @@
-/* A small host: three voices of one note each, through Sync and SoftSaturate, four times oversampled, in blocks cut at odd places.
+/* A small host: three voices of one note each, through Sync and SoftSaturate, four times oversampled, in blocks cut at
+ * odd places.
  *
  *   cc -std=c11 -Iinclude examples/host.c target/staticlib/libcard.a -lm -o host && ./host out.wav
  *
  * Writes two seconds of sound as a 16-bit mono WAV file. */
-#include "shaper.h"
+#include "shaper_block.h"
 
 #include <math.h>
 #include <stdio.h>
@@ -14,24 +15,20 @@ enum {
     FACTOR = 4,
     LANES = 3,
     FRAMES = 480, /* host frames of a block */
-    BLOCKS = 200,
-    SPANS = (FRAMES + 31) / 32,
-    SYNC = 1,
-    SOFT_SATURATE = 32
+    BLOCKS = 200
 };
 
 static const double PI = 3.14159265358979323846;
 
-/* What lives as long as the voices: phases, and what each lane carries from one call to the next. */
+/* What lives as long as the voices: their phases, and the block, whose pairs, fm, last and state they carry on. */
 static uint32_t phase[LANES];
-static float *pairs, *fm, *last, *state;
+static struct shaper_block block = {
+    .factor = FACTOR, .lanes = LANES, .active = LANES, .frames = FRAMES, .rate = RATE,
+    .slot[0].mode = SHAPER_SYNC, .slot[1].mode = SHAPER_SOFT_SATURATE};
 
-/* The tables. */
-static float *curve, *cycle;
-
-/* A block's buffers. */
+/* What the host itself writes: the tables, the phases and the sweep of slot 0's amount. */
+static float *curve, *cycle, *sweep;
 static uint32_t *words, *steps;
-static float *amount, *output, *work, *inner, *stretch, *add;
 
 /* Zeros, on the heap: a memory checker sees a step past them there. */
 static void *cells(size_t count)
@@ -44,72 +41,70 @@ static void *cells(size_t count)
     return zeros;
 }
 
+static struct shaper_writable written(size_t count)
+{
+    return shaper_write_to(cells(count), count);
+}
+
 /* Each as long as the header asks. */
 static void make_buffers(void)
 {
-    pairs = cells(4 * LANES), fm = cells(2 * LANES), last = cells(LANES), state = cells(72 * LANES);
-    curve = cells(1025), cycle = cells(2048);
-    words = cells(FRAMES * FACTOR * LANES), steps = cells(FRAMES * FACTOR * LANES), work = cells(FRAMES * FACTOR * LANES);
-    amount = cells(FRAMES * LANES), output = cells(FRAMES * LANES);
-    inner = cells(SPANS * LANES), stretch = cells(SPANS * LANES), add = cells(SPANS * LANES);
+    static const float base0[LANES] = {0}, base1[LANES] = {35.0f, 35.0f, 35.0f};
+    const size_t rendered = SHAPER_WORDS(FRAMES, FACTOR, LANES), span = SHAPER_SPAN(FRAMES, LANES);
+    block.slot[0].base = shaper_read_from(base0, LANES);
+    block.slot[1].base = shaper_read_from(base1, LANES);
+    block.slot[0].mod = shaper_read_from(sweep = cells(SHAPER_MOD(FRAMES, LANES)), SHAPER_MOD(FRAMES, LANES));
+    block.curve = shaper_read_from(curve = cells(SHAPER_CURVE), SHAPER_CURVE);
+    block.cycle = shaper_read_from(cycle = cells(SHAPER_CYCLE), SHAPER_CYCLE);
+    block.words = shaper_words_from(words = cells(rendered), rendered);
+    block.steps = shaper_words_from(steps = cells(rendered), rendered);
+    block.inner = written(span), block.stretch = written(span), block.add = written(span);
+    block.output = written(SHAPER_OUTPUT(FRAMES, LANES)), block.work = written(SHAPER_WORK(FRAMES, FACTOR, LANES));
+    block.pairs = written(SHAPER_PAIRS(LANES)), block.fm = written(SHAPER_FM(LANES));
+    block.last = written(SHAPER_LAST(LANES)), block.state = written(SHAPER_STATE(LANES));
 }
 
 static void make_tables(void)
 {
-    for (int i = 0; i < 1025; i++)
-        curve[i] = (float)i / 1024.0f;
-    for (int i = 0; i < 2048; i++)
-        cycle[i] = (float)sin(2.0 * PI * i / 2048.0);
+    for (int i = 0; i < SHAPER_CURVE; i++)
+        curve[i] = (float)i / (SHAPER_CURVE - 1);
+    for (int i = 0; i < SHAPER_CYCLE; i++)
+        cycle[i] = (float)sin(2.0 * PI * i / SHAPER_CYCLE);
 }
 
 /* Each lane's phase, rendered frame by rendered frame, and a slow sweep of slot 0's amount, in percent. */
-static void make_block(int block)
+static void make_block(int number)
 {
     static const double hertz[LANES] = {110.0, 138.59, 164.81};
     for (int k = 0; k < FRAMES * FACTOR; k++)
         for (int lane = 0; lane < LANES; lane++) {
-            uint32_t step = (uint32_t)(hertz[lane] / (RATE * FACTOR) * 4294967296.0);
+            uint32_t step = shaper_step(hertz[lane], RATE, FACTOR);
             words[k * LANES + lane] = phase[lane];
             steps[k * LANES + lane] = step;
             phase[lane] += step;
         }
     for (int k = 0; k < FRAMES; k++)
         for (int lane = 0; lane < LANES; lane++)
-            amount[k * LANES + lane] = (float)(45.0 - 45.0 * cos(2.0 * PI * (block * FRAMES + k) / (FRAMES * BLOCKS)));
+            sweep[k * LANES + lane] = (float)(45.0 - 45.0 * cos(2.0 * PI * (number * FRAMES + k) / (FRAMES * BLOCKS)));
 }
 
 static void must(struct shaper_answer answer, const char *call)
 {
-    if (answer.number != 0) {
+    if (answer.number != SHAPER_ACCEPTED) {
         fprintf(stderr, "%s: turned down with %u\n", call, (unsigned)answer.number);
         exit(1);
     }
 }
 
-/* Host frames first to first + count - 1 of the block. */
-static void run(uint32_t first, uint32_t count)
+static void render(int number)
 {
-    static const float base0[LANES] = {0}, base1[LANES] = {35.0f, 35.0f, 35.0f};
-    const uint32_t *n = shaper_card_counts;
-    must(shaper_block_run(SYNC, SOFT_SATURATE, 0.0f, 0.0f, FACTOR, LANES, LANES, FRAMES, first, count, RATE, n[0], n[1], n[2],
-             shaper_card_coefs, 36, shaper_numbers, 13, base0, LANES, base1, LANES, amount, FRAMES * LANES, NULL, 0, NULL, 0, NULL, 0,
-             curve, 1025, cycle, 2048, words, FRAMES * FACTOR * LANES, steps, FRAMES * FACTOR * LANES, inner, SPANS * LANES, output,
-             FRAMES * LANES, work, FRAMES * FACTOR * LANES, pairs, 4 * LANES, fm, 2 * LANES, last, LANES, state, 72 * LANES),
-        "shaper_block_run");
-}
-
-static void render(int block)
-{
-    static const float base0[LANES] = {0}, base1[LANES] = {35.0f, 35.0f, 35.0f};
-    make_block(block);
-    must(shaper_prepare(SYNC, SOFT_SATURATE, FACTOR, LANES, LANES, FRAMES, RATE, base0, LANES, base1, LANES, amount, FRAMES * LANES, NULL,
-             0, NULL, 0, NULL, 0, curve, 1025, inner, SPANS * LANES, stretch, SPANS * LANES, add, SPANS * LANES),
-        "shaper_prepare");
+    make_block(number);
+    must(shaper_prepare_block(&block), "shaper_prepare_block");
     /* Any cuts give the same samples. */
     uint32_t first = 0;
     for (uint32_t cut = 7; first < FRAMES; cut = cut * 3 % 101) {
         uint32_t count = cut < FRAMES - first ? cut : FRAMES - first;
-        run(first, count);
+        must(shaper_run_block(&block, first, count), "shaper_run_block");
         first += count;
     }
 }
@@ -142,7 +137,7 @@ static int mix(int k)
 {
     float sum = 0.0f;
     for (int lane = 0; lane < LANES; lane++)
-        sum += output[k * LANES + lane];
+        sum += block.output.cells[k * LANES + lane];
     float sample = sum * (32767.0f / (1.5f * LANES));
     return (int)fmaxf(-32767.0f, fminf(32767.0f, sample));
 }
@@ -162,8 +157,8 @@ int main(int argc, char **argv)
     make_tables();
     write_header(file);
     int peak = 0;
-    for (int block = 0; block < BLOCKS; block++) {
-        render(block);
+    for (int number = 0; number < BLOCKS; number++) {
+        render(number);
         for (int k = 0; k < FRAMES; k++) {
             int sample = mix(k);
             peak = abs(sample) > peak ? abs(sample) : peak;

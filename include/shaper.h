@@ -1,18 +1,22 @@
-/* The voice card's shaper, for C. Link libcard.a (`rt staticlib card`).
+/* The voice card's shaper, for C. Link libcard.a (`rt staticlib card`). A block's call has many arguments:
+ * shaper_block.h takes them as a struct that is filled in by name.
  *
- * A buffer is a pointer and a count of its numbers. Buffers by frame, spans and what lanes carry hold rows of `lanes` numbers: a lane's
- * number in a row lies at row * lanes + lane. Of `lanes` lanes (1..64) the first `active` take part in a call, possibly none; no cell of
- * another lane is touched, nor any past the lengths below. The library keeps no pointer past a call, allocates nothing and has no state of
- * its own: buffers are the caller's before, during and after a call, and calls on different buffers may run at the same time.
+ * A buffer is a pointer and a count of its numbers. Buffers by frame, spans and what lanes carry hold rows of `lanes`
+ * numbers: a lane's number in a row lies at row * lanes + lane. Of `lanes` lanes (1 to SHAPER_MAX_LANES) the first
+ * `active` take part in a call, possibly none; no cell of another lane is touched, nor any past the lengths below. The
+ * library keeps no pointer past a call, allocates nothing and has no state of its own: buffers are the caller's before,
+ * during and after a call, and calls on different buffers may run at the same time.
  *
  * In every call, also one that is turned down, the caller sees to this; where it doesn't, nothing is promised:
- *   - A pointer has as many numbers behind it as its count says. It is NULL only with count 0, and with count 0 it may be any.
+ *   - A pointer has as many numbers behind it as its count says. It is NULL only with count 0, and with count 0 it may
+ *     be any.
  *   - It is aligned as its type, float or uint32_t, and needs no more than that.
  *   - A buffer that is written overlaps no other buffer of the call. Those that are read may.
  *   - No one else writes a buffer of the call while it runs, or reads one that it writes.
  *   - The thread's floating-point mode is C's default: to nearest, and subnormal numbers are kept.
- * Beyond that arguments may be any, NaN and infinities too. A count need not be a multiple of anything: what is longer than asked for is
- * left alone, what is shorter is refused, an empty buffer too where something is asked for, unless it may be absent.
+ * Beyond that arguments may be any, NaN and infinities too. A count need not be a multiple of anything: what is longer
+ * than asked for is left alone, what is shorter is refused, an empty buffer too where something is asked for, unless it
+ * may be absent.
  */
 #ifndef SHAPER_H
 #define SHAPER_H
@@ -24,17 +28,98 @@
 extern "C" {
 #endif
 
-/* What a call answers. A call is turned down by the first of these lines that holds, for the arguments that it has; then `frames` is 0
- * and every buffer is as it was:
- *   1  a mode is above 69
- *   2  the factor is not 1, 2, 4 or 8
- *   3  the lane count is not 1..64, the active lanes are more, or a single lane is not active
- *   4  a block of more than 4,096 frames, a range past its end, or a single frame outside its range
- *   5  the host rate is not 8,000..192,000
- *   6  a design's count is not 1..12 (of any of the three, whether the factor uses it or not)
- *   7  a buffer that is read is too short
- *   8  a buffer that is written is too short
- * An accepted call answers number 0 and its frames. */
+/* The modes, by their numbers. docs/MODES.md says of each what its amount and its character do, and what it hears. */
+enum shaper_mode {
+    SHAPER_OFF = 0,
+
+    /* Where the cycle is read. */
+    SHAPER_SYNC = 1, SHAPER_PINCH_IN = 2, SHAPER_PINCH_OUT = 3, SHAPER_PINCH = 4, SHAPER_PULSE_WIDTH = 5,
+    SHAPER_LEAN_RIGHT = 6, SHAPER_LEAN_LEFT = 7, SHAPER_LEAN = 8, SHAPER_FLIP = 9, SHAPER_MIRROR = 10,
+    SHAPER_REMAP_DRAWN = 11, SHAPER_REMAP_MIRRORED = 12, SHAPER_REMAP_SINE = 13, SHAPER_REMAP_QUAD = 14,
+    SHAPER_QUANTISE = 15, SHAPER_ODD_EVEN = 16,
+
+    /* Filters. */
+    SHAPER_LOW_PASS = 17, SHAPER_HIGH_PASS = 18,
+
+    /* Distortions. */
+    SHAPER_VALVE = 19, SHAPER_SOFT_CLIP = 20, SHAPER_HARD_CLIP = 21, SHAPER_DIODE1 = 22, SHAPER_DIODE2 = 23,
+    SHAPER_FOLD = 24, SHAPER_SINE_FOLD = 25, SHAPER_ZERO_SQUARE = 26, SHAPER_ASYMMETRIC = 27, SHAPER_RECTIFY = 28,
+    SHAPER_SINE_SHAPER = 29, SHAPER_PEDAL = 30, SHAPER_TAPE = 31, SHAPER_SOFT_SATURATE = 32,
+
+    /* Frequency modulation: through zero, exponential, linear. */
+    SHAPER_FM1 = 33, SHAPER_FM2 = 34, SHAPER_FM_NOISE = 35, SHAPER_FM_SUB = 36, SHAPER_FM_FILTER1 = 37,
+    SHAPER_FM_FILTER2 = 38,
+    SHAPER_FM_EXP1 = 39, SHAPER_FM_EXP2 = 40, SHAPER_FM_EXP_NOISE = 41, SHAPER_FM_EXP_SUB = 42,
+    SHAPER_FM_EXP_FILTER1 = 43, SHAPER_FM_EXP_FILTER2 = 44,
+    SHAPER_FM_LIN1 = 45, SHAPER_FM_LIN2 = 46, SHAPER_FM_LIN_NOISE = 47, SHAPER_FM_LIN_SUB = 48,
+    SHAPER_FM_LIN_FILTER1 = 49, SHAPER_FM_LIN_FILTER2 = 50,
+
+    /* Phase distortion. */
+    SHAPER_PD1 = 51, SHAPER_PD2 = 52, SHAPER_PD_NOISE = 53, SHAPER_PD_SUB = 54, SHAPER_PD_FILTER1 = 55,
+    SHAPER_PD_FILTER2 = 56, SHAPER_PD_SELF = 57,
+
+    /* Amplitude and ring modulation. */
+    SHAPER_AM1 = 58, SHAPER_AM2 = 59, SHAPER_AM_NOISE = 60, SHAPER_AM_SUB = 61, SHAPER_AM_FILTER1 = 62,
+    SHAPER_AM_FILTER2 = 63,
+    SHAPER_RM1 = 64, SHAPER_RM2 = 65, SHAPER_RM_NOISE = 66, SHAPER_RM_SUB = 67, SHAPER_RM_FILTER1 = 68,
+    SHAPER_RM_FILTER2 = 69
+};
+
+/* What a call may be asked for. */
+#define SHAPER_MODES 70        /* modes are below this */
+#define SHAPER_MAX_FACTOR 8    /* factors are 1, 2, 4 and this */
+#define SHAPER_MAX_LANES 64    /* lanes are 1 to this */
+#define SHAPER_MAX_FRAMES 4096 /* a block's host frames are 0 to this */
+#define SHAPER_MIN_RATE 8000   /* host rates are this to SHAPER_MAX_RATE, in whole hertz */
+#define SHAPER_MAX_RATE 192000
+#define SHAPER_DESIGNS 3    /* the decimator's */
+#define SHAPER_MAX_COUNT 12 /* a design's count is 1 to this */
+#define SHAPER_SLOTS 2      /* slot 1 shapes what slot 0 made */
+#define SHAPER_SUB_BLOCK 32 /* host frames that share a row of a span */
+
+/* How many numbers a buffer has at least, by the buffer's name: an array's size where the arguments are constant. Those
+ * with arguments are of type size_t, and work each argument out once. */
+#define SHAPER_CURVE 1025
+#define SHAPER_CYCLE 2048
+#define SHAPER_COEFS (SHAPER_DESIGNS * SHAPER_MAX_COUNT)
+#define SHAPER_NUMBERS 13 /* the sine's five and the arctangent's eight */
+
+/* By lane. */
+#define SHAPER_BASE(lanes) ((size_t)(lanes))
+#define SHAPER_PAIRS(lanes) ((size_t)4 * (size_t)(lanes))
+#define SHAPER_FM(lanes) ((size_t)2 * (size_t)(lanes))
+#define SHAPER_LAST(lanes) ((size_t)(lanes))
+#define SHAPER_STATE(lanes) ((size_t)2 * SHAPER_COEFS * (size_t)(lanes))
+
+/* By host frame of the block. */
+#define SHAPER_MOD(frames, lanes) ((size_t)(frames) * (size_t)(lanes))
+#define SHAPER_SOURCE(frames, lanes) ((size_t)(frames) * (size_t)(lanes))
+#define SHAPER_OUTPUT(frames, lanes) ((size_t)(frames) * (size_t)(lanes))
+
+/* By sub-block, the last of which may be shorter: inner, stretch and add, each. */
+#define SHAPER_SPAN(frames, lanes) (((size_t)(frames) + (SHAPER_SUB_BLOCK - 1)) / SHAPER_SUB_BLOCK * (size_t)(lanes))
+
+/* By rendered frame: of the block, of a range of `count` host frames, of a decimation. */
+#define SHAPER_WORDS(frames, factor, lanes) ((size_t)(frames) * (size_t)(factor) * (size_t)(lanes))
+#define SHAPER_STEPS(frames, factor, lanes) ((size_t)(frames) * (size_t)(factor) * (size_t)(lanes))
+#define SHAPER_WORK(count, factor, lanes) ((size_t)(count) * (size_t)(factor) * (size_t)(lanes))
+#define SHAPER_BUFFER(frames, factor, lanes) ((size_t)(frames) * (size_t)(factor) * (size_t)(lanes))
+
+/* Why a call is turned down: by the first of these lines that holds, for the arguments that it has. */
+enum shaper_refusal {
+    SHAPER_ACCEPTED = 0,
+    SHAPER_BAD_MODE = 1,   /* a mode is above 69 */
+    SHAPER_BAD_FACTOR = 2, /* the factor is not 1, 2, 4 or 8 */
+    SHAPER_BAD_LANES = 3,  /* the lane count is not 1..64, the active lanes are more, or a single lane is not active */
+    SHAPER_BAD_FRAMES = 4, /* a block above 4,096 frames, a range past its end, or a single frame outside its range */
+    SHAPER_BAD_RATE = 5,   /* the host rate is not 8,000..192,000 */
+    SHAPER_BAD_DESIGN = 6, /* a design's count is not 1..12 (of any of the three, whether the factor uses it or not) */
+    SHAPER_SHORT_READ = 7, /* a buffer that is read is too short */
+    SHAPER_SHORT_WRITE = 8 /* a buffer that is written is too short */
+};
+
+/* What a call answers: SHAPER_ACCEPTED and its frames, or its refusal's number and no frames, and then every buffer is
+ * as it was. */
 struct shaper_answer {
     uint32_t number;
     uint32_t frames;
@@ -47,42 +132,46 @@ struct shaper_valued {
     float value;
 };
 
-/* Works out, once for a block, how steep each lane's slots read the cycle: three spans, each with a row for every sub-block of 32 host
- * frames counted from the block's start, frames / 32 rounded up.
+/* Works out, once for a block, how steep each lane's slots read the cycle: three spans, each with a row for every
+ * sub-block of 32 host frames counted from the block's start, frames / 32 rounded up.
  *
- *   mode0, mode1      the slots' modes, 0..69
+ *   mode0, mode1      the slots' modes (enum shaper_mode)
  *   factor            1, 2, 4 or 8: rendered frames to a host frame
  *   lanes, active     lanes 0 to active - 1 are prepared
- *   frames            the block's host frames, 0..4096
- *   rate              the host rate in whole hertz, 8000..192000
- *   base0, base1      read, at least lanes: a slot's amount in percent, knob plus the lane's offset
- *   mod0, mod1        read, at least frames * lanes, or empty where the slot has none: what is added to the amount, by host frame
- *   source0, source1  read, the same: what the slot hears. An empty one is absent, and a modulated mode then does nothing. Mode 57 hears
- *                     the lane's own last sample, and only where a source is given; of that source's numbers only `add` is made
- *   curve             read, at least 1025: the remap curve's values
- *   inner             written, a span: slot 1's steepest slope. A block run reads it
- *   stretch, add      written, spans: the steepest slope of both slots (times the factor where a slot is a distortion), and what the modes
- *                     with a source add to it, in words a rendered frame. shaper_stretch reads them
+ *   frames            the block's host frames, 0 to SHAPER_MAX_FRAMES
+ *   rate              the host rate in whole hertz, SHAPER_MIN_RATE to SHAPER_MAX_RATE
+ *   base0, base1      read, at least SHAPER_BASE(lanes): a slot's amount in percent, knob plus the lane's offset
+ *   mod0, mod1        read, at least SHAPER_MOD(frames, lanes), or empty where the slot has none: what is added to the
+ *                     amount, by host frame
+ *   source0, source1  read, at least SHAPER_SOURCE(frames, lanes), or empty: what the slot hears. An empty one is
+ *                     absent, and a modulated mode then does nothing. SHAPER_PD_SELF hears the lane's own last sample,
+ *                     and only where a source is given; of that source's numbers only `add` is made
+ *   curve             read, at least SHAPER_CURVE: the remap curve's values
+ *   inner             written, at least SHAPER_SPAN(frames, lanes): slot 1's steepest slope. A block run reads it
+ *   stretch, add      written, the same: the steepest slope of both slots (times the factor where a slot is a
+ *                     distortion), and what the modes with a source add to it, in words a rendered frame.
+ *                     shaper_stretch reads them
  *
- * A span has at least (frames + 31) / 32 * lanes numbers. Answers the block's frames. */
+ * Answers the block's frames. */
 struct shaper_answer shaper_prepare(
     uint32_t mode0, uint32_t mode1, uint32_t factor, uint32_t lanes, uint32_t active, uint32_t frames, uint32_t rate,
-    const float *base0, size_t base0_length, const float *base1, size_t base1_length, const float *mod0, size_t mod0_length,
-    const float *mod1, size_t mod1_length, const float *source0, size_t source0_length, const float *source1, size_t source1_length,
-    const float *curve, size_t curve_length, float *inner, size_t inner_length, float *stretch, size_t stretch_length, float *add,
-    size_t add_length);
+    const float *base0, size_t base0_length, const float *base1, size_t base1_length, const float *mod0,
+    size_t mod0_length, const float *mod1, size_t mod1_length, const float *source0, size_t source0_length,
+    const float *source1, size_t source1_length, const float *curve, size_t curve_length, float *inner,
+    size_t inner_length, float *stretch, size_t stretch_length, float *add, size_t add_length);
 
-/* How much faster than its phase a lane reads over some rendered frames of a range: at least 1, if the call is accepted. A host picks a
- * band-limited cycle by it.
+/* How much faster than its phase a lane reads over some rendered frames of a range: at least 1, if the call is
+ * accepted. A host picks a band-limited cycle by it.
  *
- *   factor, lanes       1, 2, 4 or 8; 1..64
+ *   factor, lanes       1, 2, 4 or 8; 1 to SHAPER_MAX_LANES
  *   active, lane        at most lanes; a single lane, below active
- *   frames              the block's host frames, 0..4096
+ *   frames              the block's host frames, 0 to SHAPER_MAX_FRAMES
  *   first, count        the range: its first host frame, and how many
- *   asked_first, asked  the rendered frames, counted from the range's start (count * factor of them lie in it). Asked for none, the call
- *                       looks at asked_first, which must lie in the range as well
+ *   asked_first, asked  the rendered frames, counted from the range's start (count * factor of them lie in it). Asked
+ *                       for none, the call looks at asked_first, which must lie in the range as well
  *   step                the lane's phase step, in words a rendered frame
- *   stretch, add        read, the spans that shaper_prepare wrote for the block, at least (frames + 31) / 32 * lanes each
+ *   stretch, add        read, the spans that shaper_prepare wrote for the block, at least SHAPER_SPAN(frames, lanes)
+ *                       each
  *
  * Answers the range's frames. */
 struct shaper_valued shaper_stretch(
@@ -90,75 +179,84 @@ struct shaper_valued shaper_stretch(
     uint32_t asked_first, uint32_t asked, uint32_t step, const float *stretch, size_t stretch_length, const float *add,
     size_t add_length);
 
-/* Renders host frames first to first + count - 1 of a block, at `factor` times the host rate, and decimates them to the host rate: for each
- * rendered frame and each active lane a list of reads of the cycle, their sum, and the sample shaped by slot 0 and then slot 1.
+/* Renders host frames first to first + count - 1 of a block, at `factor` times the host rate, and decimates them to the
+ * host rate: for each rendered frame and each active lane a list of reads of the cycle, their sum, and the sample
+ * shaped by slot 0 and then slot 1.
  *
- *   mode0, mode1            the slots' modes, 0..69
+ *   mode0, mode1            the slots' modes (enum shaper_mode)
  *   character0, character1  the slots' characters
  *   factor, lanes, active   as in shaper_decimate
- *   frames                  the block's host frames, 0..4096
+ *   frames                  the block's host frames, 0 to SHAPER_MAX_FRAMES
  *   first, count            the range; first + count is at most frames. It may be empty
- *   rate                    the host rate in whole hertz, 8000..192000
+ *   rate                    the host rate in whole hertz, SHAPER_MIN_RATE to SHAPER_MAX_RATE
  *   count0..count2, coefs   the designs, as in shaper_decimate
- *   numbers                 read, at least 13: the sine's five numbers and the arctangent's eight (shaper_numbers)
+ *   numbers                 read, at least SHAPER_NUMBERS: the sine's five numbers and the arctangent's eight
+ *                           (shaper_numbers)
  *   base0 .. curve          read, as in shaper_prepare
- *   cycle                   read, at least 2048: one cycle of the wave, read at entry word / 2^21
- *   words, steps            read, at least frames * factor * lanes each: phase words (2^32 is one cycle) and how far they move in a rendered
- *                           frame, by rendered frame of the block
- *   inner                   read, the span that shaper_prepare wrote for the block, at least (frames + 31) / 32 * lanes
- *   output                  written, at least frames * lanes: the rows first to first + count - 1 of the active lanes, by host frame of the
- *                           block
- *   work                    written, at least count * factor * lanes: scratch for the rendered frames of the range, whose contents need not
- *                           be kept
- *   pairs, fm, last, state  written, at least 4, 2, 1 and 72 times lanes: what each lane carries from one call to the next, its filters'
- *                           numbers, its FM offsets in cycles, the raw sample that it read last (kept only where one slot's mode is 57 and the
- *                           other acts on the sample), and the decimator's cells. Zeros start a lane
+ *   cycle                   read, at least SHAPER_CYCLE: one cycle of the wave, read at entry word / 2^21
+ *   words, steps            read, at least SHAPER_WORDS(frames, factor, lanes) each: phase words (2^32 is one cycle)
+ *                           and how far they move in a rendered frame, by rendered frame of the block
+ *   inner                   read, the span that shaper_prepare wrote for the block, at least SHAPER_SPAN(frames, lanes)
+ *   output                  written, at least SHAPER_OUTPUT(frames, lanes): the rows first to first + count - 1 of the
+ *                           active lanes, by host frame of the block
+ *   work                    written, at least SHAPER_WORK(count, factor, lanes): scratch for the rendered frames of the
+ *                           range, whose contents need not be kept
+ *   pairs, fm, last, state  written, at least SHAPER_PAIRS(lanes), SHAPER_FM(lanes), SHAPER_LAST(lanes) and
+ *                           SHAPER_STATE(lanes): what each lane carries from one call to the next, its filters'
+ *                           numbers, its FM offsets in cycles, the raw sample that it read last (kept only where one
+ *                           slot's mode is SHAPER_PD_SELF and the other acts on the sample), and the decimator's cells.
+ *                           Zeros start a lane
  *
- * A block may be run in any consecutive ranges, with refused calls among them: a lane that is active in all accepted calls has the same
- * output and the same state as from one call, NaN counting as one value, provided that the other arguments stay and the spans are prepared
- * once for the block. Output rows outside the range are not touched. Answers the range's frames. */
+ * A block may be run in any consecutive ranges, with refused calls among them: a lane that is active in all accepted
+ * calls has the same output and the same state as from one call, NaN counting as one value, provided that the other
+ * arguments stay and the spans are prepared once for the block. Output rows outside the range are not touched. Answers
+ * the range's frames. */
 struct shaper_answer shaper_block_run(
-    uint32_t mode0, uint32_t mode1, float character0, float character1, uint32_t factor, uint32_t lanes, uint32_t active, uint32_t frames,
-    uint32_t first, uint32_t count, uint32_t rate, uint32_t count0, uint32_t count1, uint32_t count2, const float *coefs,
-    size_t coefs_length, const float *numbers, size_t numbers_length, const float *base0, size_t base0_length, const float *base1,
-    size_t base1_length, const float *mod0, size_t mod0_length, const float *mod1, size_t mod1_length, const float *source0,
-    size_t source0_length, const float *source1, size_t source1_length, const float *curve, size_t curve_length, const float *cycle,
-    size_t cycle_length, const uint32_t *words, size_t words_length, const uint32_t *steps, size_t steps_length, const float *inner,
-    size_t inner_length, float *output, size_t output_length, float *work, size_t work_length, float *pairs, size_t pairs_length, float *fm,
-    size_t fm_length, float *last, size_t last_length, float *state, size_t state_length);
+    uint32_t mode0, uint32_t mode1, float character0, float character1, uint32_t factor, uint32_t lanes,
+    uint32_t active, uint32_t frames, uint32_t first, uint32_t count, uint32_t rate, uint32_t count0, uint32_t count1,
+    uint32_t count2, const float *coefs, size_t coefs_length, const float *numbers, size_t numbers_length,
+    const float *base0, size_t base0_length, const float *base1, size_t base1_length, const float *mod0,
+    size_t mod0_length, const float *mod1, size_t mod1_length, const float *source0, size_t source0_length,
+    const float *source1, size_t source1_length, const float *curve, size_t curve_length, const float *cycle,
+    size_t cycle_length, const uint32_t *words, size_t words_length, const uint32_t *steps, size_t steps_length,
+    const float *inner, size_t inner_length, float *output, size_t output_length, float *work, size_t work_length,
+    float *pairs, size_t pairs_length, float *fm, size_t fm_length, float *last, size_t last_length, float *state,
+    size_t state_length);
 
 /* Decimates `buffer` in place by `factor`.
  *
  *   factor          1, 2, 4 or 8; 1 changes nothing
- *   lanes           the numbers in a row, 1..64
+ *   lanes           the numbers in a row, 1 to SHAPER_MAX_LANES
  *   active          lanes 0 to active - 1 are decimated, and no cell of another lane is touched; may be 0
- *   frames          output rows, 0..4096
- *   count0..count2  how many of its 12 coefficients design 0, 1 and 2 uses, 1..12 each
- *   coefs           read, at least 36: 12 coefficients each of designs 0, 1 and 2. Design 0 is for the last stage, the nearest to the
- *                   output; factor 4 uses designs 1 and 0, factor 8 designs 2, 1 and 0, in this order
- *   buffer          written, at least frames * factor * lanes: frames * factor input rows, of which the first `frames` become the
- *                   result. The rows past it hold what the work in place left there
- *   state           written, at least 72 * lanes, zeros before the first call. It carries each lane's filters from one call to the
- *                   next: block d (72 / 3 = 24 rows for design d) has in row 2 * i section i's last input and in row 2 * i + 1 its
- *                   last output
+ *   frames          output rows, 0 to SHAPER_MAX_FRAMES
+ *   count0..count2  how many of its SHAPER_MAX_COUNT coefficients design 0, 1 and 2 uses, 1 to all of them
+ *   coefs           read, at least SHAPER_COEFS: SHAPER_MAX_COUNT coefficients each of designs 0, 1 and 2. Design 0 is
+ *                   for the last stage, the nearest to the output; factor 4 uses designs 1 and 0, factor 8 designs 2, 1
+ *                   and 0, in this order
+ *   buffer          written, at least SHAPER_BUFFER(frames, factor, lanes): frames * factor input rows, of which the
+ *                   first `frames` become the result. The rows past it hold what the work in place left there
+ *   state           written, at least SHAPER_STATE(lanes), zeros before the first call. It carries each lane's filters
+ *                   from one call to the next: block d (72 / 3 = 24 rows for design d) has in row 2 * i section i's
+ *                   last input and in row 2 * i + 1 its last output
  *
- * Cells past these lengths are not touched. A block may be decimated in any ranges of consecutive rows, with one state: the results and
- * the state are those of one call. */
+ * Cells past these lengths are not touched. A block may be decimated in any ranges of consecutive rows, with one state:
+ * the results and the state are those of one call. */
 struct shaper_answer shaper_decimate(
-    uint32_t factor, uint32_t lanes, uint32_t active, uint32_t frames, uint32_t count0, uint32_t count1, uint32_t count2,
-    const float *coefs, size_t coefs_length, float *buffer, size_t buffer_length, float *state, size_t state_length);
+    uint32_t factor, uint32_t lanes, uint32_t active, uint32_t frames, uint32_t count0, uint32_t count1,
+    uint32_t count2, const float *coefs, size_t coefs_length, float *buffer, size_t buffer_length, float *state,
+    size_t state_length);
 
 /* The card's three designs: their coefficients as `coefs` takes them, and their counts. */
-static const float shaper_card_coefs[36] = {
-    0.034332752f, 0.12848179f, 0.26047325f, 0.40524498f, 0.5431863f, 0.66346705f, 0.7630483f, 0.8440243f, 0.9112316f, 0.9708499f,
-    0.0f, 0.0f,
+static const float shaper_card_coefs[SHAPER_COEFS] = {
+    0.034332752f, 0.12848179f, 0.26047325f, 0.40524498f, 0.5431863f, 0.66346705f, 0.7630483f, 0.8440243f, 0.9112316f,
+    0.9708499f, 0.0f, 0.0f,
     0.036116753f, 0.13707772f, 0.28504226f, 0.4614878f, 0.65648645f, 0.87495035f, 0.0f, 0.0f, 0.0f, 0.0f, 0.0f, 0.0f,
     0.035724986f, 0.13916272f, 0.30249274f, 0.5226143f, 0.81379634f, 0.0f, 0.0f, 0.0f, 0.0f, 0.0f, 0.0f, 0.0f};
 
-static const uint32_t shaper_card_counts[3] = {10, 6, 5};
+static const uint32_t shaper_card_counts[SHAPER_DESIGNS] = {10, 6, 5};
 
 /* The sine and arctangent numbers, as `numbers` takes them. */
-static const float shaper_numbers[13] = {
+static const float shaper_numbers[SHAPER_NUMBERS] = {
     1.0f, -0.16666648f, 0.008332899f, -0.0001980083f, 2.5903703e-6f,
     1.0f, -0.33333334f, 0.2f, -0.14285715f, 0.11111111f, -0.09090909f, 0.07692308f, -0.06666667f};
 

@@ -1,5 +1,6 @@
-/* The calls' boundary: buffers on the heap, of exactly the lengths that a call is told, so that valgrind sees the library step past one;
- * longer and unaligned ones, NULL, every buffer too short, the largest numbers. Prints how many checks pass, "P of T". */
+/* The calls' boundary: buffers on the heap, of exactly the lengths that a call is told, so that valgrind sees the
+ * library step past one; longer and unaligned ones, NULL, every buffer too short, the largest numbers. Prints how many
+ * checks pass, "P of T". */
 #define _DEFAULT_SOURCE /* MAP_ANONYMOUS */
 #include "check.h"
 
@@ -7,12 +8,13 @@
 #include <sys/mman.h>
 
 enum number {
-    MODE0, MODE1, FACTOR, LANES, ACTIVE, LANE, FRAMES, FIRST, COUNT, ASKED_FIRST, ASKED, RATE, COUNT0, COUNT1, COUNT2, STEP, NUMBER_END
+    MODE0, MODE1, FACTOR, LANES, ACTIVE, LANE, FRAMES, FIRST, COUNT, ASKED_FIRST, ASKED, RATE, COUNT0, COUNT1, COUNT2, STEP,
+    NUMBER_END
 };
 
 enum buffer {
-    COEFS, NUMBERS, BASE0, BASE1, MOD0, MOD1, SOURCE0, SOURCE1, CURVE, CYCLE, WORDS, STEPS, INNER, STRETCH, ADD, OUTPUT, WORK, PAIRS, FM,
-    LAST, STATE, BUFFER, BUFFER_END
+    COEFS, NUMBERS, BASE0, BASE1, MOD0, MOD1, SOURCE0, SOURCE1, CURVE, CYCLE, WORDS, STEPS, INNER, STRETCH, ADD, OUTPUT,
+    WORK, PAIRS, FM, LAST, STATE, BUFFER, BUFFER_END
 };
 
 enum kind { DECIMATE, PREPARE, STRETCH_OF, RUN, KIND_END };
@@ -66,20 +68,25 @@ static unsigned written_by(enum kind kind)
 /* The header's lengths. */
 static size_t asked(unsigned b, const uint32_t *n)
 {
-    size_t lanes = n[LANES];
+    uint32_t frames = n[FRAMES], factor = n[FACTOR], lanes = n[LANES];
     switch (b) {
-    case COEFS: return 36;
-    case NUMBERS: return 13;
-    case CURVE: return 1025;
-    case CYCLE: return 2048;
-    case INNER: case STRETCH: case ADD: return (n[FRAMES] + 31) / 32 * lanes;
-    case WORDS: case STEPS: case BUFFER: return n[FRAMES] * n[FACTOR] * lanes;
-    case WORK: return n[COUNT] * n[FACTOR] * lanes;
-    case BASE0: case BASE1: case LAST: return lanes;
-    case FM: return 2 * lanes;
-    case PAIRS: return 4 * lanes;
-    case STATE: return 72 * lanes;
-    default: return n[FRAMES] * lanes;
+    case COEFS: return SHAPER_COEFS;
+    case NUMBERS: return SHAPER_NUMBERS;
+    case BASE0: case BASE1: return SHAPER_BASE(lanes);
+    case MOD0: case MOD1: return SHAPER_MOD(frames, lanes);
+    case SOURCE0: case SOURCE1: return SHAPER_SOURCE(frames, lanes);
+    case CURVE: return SHAPER_CURVE;
+    case CYCLE: return SHAPER_CYCLE;
+    case WORDS: return SHAPER_WORDS(frames, factor, lanes);
+    case STEPS: return SHAPER_STEPS(frames, factor, lanes);
+    case INNER: case STRETCH: case ADD: return SHAPER_SPAN(frames, lanes);
+    case OUTPUT: return SHAPER_OUTPUT(frames, lanes);
+    case WORK: return SHAPER_WORK(n[COUNT], factor, lanes);
+    case PAIRS: return SHAPER_PAIRS(lanes);
+    case FM: return SHAPER_FM(lanes);
+    case LAST: return SHAPER_LAST(lanes);
+    case STATE: return SHAPER_STATE(lanes);
+    default: return SHAPER_BUFFER(frames, factor, lanes);
     }
 }
 
@@ -99,7 +106,7 @@ static struct shaper_answer call(enum kind kind, const struct call *c)
     case STRETCH_OF:
         v = shaper_stretch(n[FACTOR], n[LANES], n[ACTIVE], n[LANE], n[FRAMES], n[FIRST], n[COUNT], n[ASKED_FIRST], n[ASKED], n[STEP],
             LENT(STRETCH), LENT(ADD));
-        check(v.number == 0 ? v.value >= 1.0f : bits(v.value) == 0, "the value of a stretch");
+        check(v.number == SHAPER_ACCEPTED ? v.value >= 1.0f : bits(v.value) == 0, "the value of a stretch");
         return (struct shaper_answer){v.number, v.frames};
     default:
         return shaper_block_run(n[MODE0], n[MODE1], 0.5f, 0.25f, n[FACTOR], n[LANES], n[ACTIVE], n[FRAMES], n[FIRST], n[COUNT], n[RATE],
@@ -109,8 +116,8 @@ static struct shaper_answer call(enum kind kind, const struct call *c)
     }
 }
 
-/* The first cells of a buffer are the same at any length. Amounts are percent, words any with the phase's end among them, which reads the
- * cycle's and the curve's last cells, and the rest from -1 to 1. */
+/* The first cells of a buffer are the same at any length. Amounts are percent, words any with the phase's end among
+ * them, which reads the cycle's and the curve's last cells, and the rest from -1 to 1. */
 static void fill(unsigned b, void *cells, size_t length)
 {
     uint32_t s = 0x5eed + b;
@@ -119,9 +126,9 @@ static void fill(unsigned b, void *cells, size_t length)
         float x = (float)(s >> 8) / 8388608.0f - 1.0f;
         if (b == BASE0 || b == BASE1)
             x = 50.0f + 50.0f * x;
-        if (b == COEFS && i < 36)
+        if (b == COEFS && i < SHAPER_COEFS)
             x = shaper_card_coefs[i];
-        if (b == NUMBERS && i < 13)
+        if (b == NUMBERS && i < SHAPER_NUMBERS)
             x = shaper_numbers[i];
         uint32_t word = i % 8 == 7 ? UINT32_MAX : s;
         memcpy((char *)cells + 4 * i, b == WORDS || b == STEPS ? (void *)&word : (void *)&x, 4);
@@ -192,16 +199,16 @@ static uint32_t frames_of(enum kind kind, const uint32_t *n)
     return kind == DECIMATE || kind == PREPARE ? n[FRAMES] : n[COUNT];
 }
 
-/* A call that is right, with exact buffers, and with longer ones that are aligned to a cell and no more: the same cells, and none past
- * them. */
+/* A call that is right, with exact buffers, and with longer ones that are aligned to a cell and no more: the same cells,
+ * and none past them. */
 static void check_accepted(enum kind kind, const uint32_t *n)
 {
     static const struct how others[] = {{1, 1}, {3, 3}};
     struct call exact = lent(kind, n, EXACT);
-    check(answered(call(kind, &exact), 0, frames_of(kind, n)), "a right call");
+    check(answered(call(kind, &exact), SHAPER_ACCEPTED, frames_of(kind, n)), "a right call");
     for (unsigned i = 0; i < 2; i++) {
         struct call longer = lent(kind, n, others[i]);
-        check(answered(call(kind, &longer), 0, frames_of(kind, n)), "longer buffers");
+        check(answered(call(kind, &longer), SHAPER_ACCEPTED, frames_of(kind, n)), "longer buffers");
         int same = 1, left = 1;
         for (unsigned b = 0; b < BUFFER_END; b++) {
             if (exact.length[b] != 0)
@@ -215,8 +222,10 @@ static void check_accepted(enum kind kind, const uint32_t *n)
     take_all_back(&exact, EXACT);
 }
 
-/* The numbers that each kind has answered. */
+/* The refusals that each kind has answered, and those that every kind has. */
 static unsigned seen[KIND_END];
+static const unsigned SIZED =
+    BIT(SHAPER_BAD_FACTOR) | BIT(SHAPER_BAD_LANES) | BIT(SHAPER_BAD_FRAMES) | BIT(SHAPER_SHORT_READ);
 
 /* A call that is turned down leaves every cell. */
 static void check_refused(enum kind kind, struct call *c, uint32_t number)
@@ -237,7 +246,7 @@ static void check_short(enum kind kind, const uint32_t *n)
     for (unsigned b = 0; b < BUFFER_END; b++) {
         if (asked(b, n) == 0 || ((read_by(kind) | written_by(kind)) & BIT(b)) == 0)
             continue;
-        uint32_t number = BIT(b) & written_by(kind) ? 8 : 7;
+        uint32_t number = BIT(b) & written_by(kind) ? SHAPER_SHORT_WRITE : SHAPER_SHORT_READ;
         take_back(&c, b, EXACT);
         if ((BIT(b) & OPTIONAL) == 0)
             check_refused(kind, &c, number);
@@ -258,16 +267,23 @@ static void check_absent(enum kind kind, const uint32_t *n)
         for (unsigned b = MOD0; b <= SOURCE1; b++)
             if (absent & BIT(b - MOD0))
                 take_back(&c, b, EXACT);
-        check(answered(call(kind, &c), 0, frames_of(kind, n)), "absent modulations and sources");
+        check(answered(call(kind, &c), SHAPER_ACCEPTED, frames_of(kind, n)), "absent modulations and sources");
         take_all_back(&c, EXACT);
     }
 }
 
-/* The line of a number that is too large, 0 for a step. */
+/* The line of a number that is too large; a step never is. */
 static uint32_t line(unsigned number)
 {
-    static const uint32_t lines[NUMBER_END] = {1, 1, 2, 3, 3, 3, 4, 4, 4, 4, 4, 5, 6, 6, 6, 0};
-    return lines[number];
+    switch (number) {
+    case MODE0: case MODE1: return SHAPER_BAD_MODE;
+    case FACTOR: return SHAPER_BAD_FACTOR;
+    case LANES: case ACTIVE: case LANE: return SHAPER_BAD_LANES;
+    case FRAMES: case FIRST: case COUNT: case ASKED_FIRST: case ASKED: return SHAPER_BAD_FRAMES;
+    case RATE: return SHAPER_BAD_RATE;
+    case COUNT0: case COUNT1: case COUNT2: return SHAPER_BAD_DESIGN;
+    default: return SHAPER_ACCEPTED;
+    }
 }
 
 /* Buffers that nobody may read or write: a number that is too large is seen before any cell. */
@@ -278,7 +294,7 @@ static void check_largest(enum kind kind, const uint32_t *n)
     if (closed == MAP_FAILED)
         exit(1);
     for (unsigned number = 0; number < NUMBER_END; number++) {
-        if ((numbers_of(kind) & BIT(number)) == 0 || line(number) == 0)
+        if ((numbers_of(kind) & BIT(number)) == 0 || line(number) == SHAPER_ACCEPTED)
             continue;
         struct call c = {.length = {0}};
         memcpy(c.n, n, sizeof c.n);
@@ -300,15 +316,15 @@ static void check_all_largest(enum kind kind)
 {
     struct call c = {.length = {0}};
     memset(c.n, 0xff, sizeof c.n);
-    check(answered(call(kind, &c), BIT(MODE0) & numbers_of(kind) ? 1 : 2, 0), "all numbers the largest");
+    check(answered(call(kind, &c), BIT(MODE0) & numbers_of(kind) ? SHAPER_BAD_MODE : SHAPER_BAD_FACTOR, 0), "all numbers the largest");
 }
 
-/* Every mode in either slot, beside Off, and beside mode 57, which hears the lane's last sample. */
+/* Every mode in either slot, beside Off, and beside the mode that hears the lane's last sample. */
 static void check_modes(uint32_t *n)
 {
-    for (uint32_t mode = 0; mode < 70; mode++)
+    for (uint32_t mode = 0; mode < SHAPER_MODES; mode++)
         for (unsigned slot = MODE0; slot <= MODE1; slot++)
-            for (uint32_t other = 0; other <= 57; other += 57) {
+            for (uint32_t other = SHAPER_OFF; other <= SHAPER_PD_SELF; other += SHAPER_PD_SELF) {
                 n[slot] = mode;
                 n[slot == MODE0 ? MODE1 : MODE0] = other;
                 check_accepted(PREPARE, n);
@@ -322,7 +338,8 @@ int main(void)
         /* factor, lanes, active, frames, first, count */
         {1, 1, 1, 1, 0, 1}, {2, 3, 2, 33, 31, 2}, {4, 5, 5, 65, 1, 63}, {8, 64, 63, 31, 30, 1}, {1, 64, 64, 32, 0, 32}, {8, 2, 1, 97, 0, 97}};
     uint32_t n[NUMBER_END] = {
-        [MODE0] = 39, [MODE1] = 21, [RATE] = 48000, [COUNT0] = 10, [COUNT1] = 6, [COUNT2] = 5, [ASKED] = 1, [STEP] = UINT32_MAX};
+        [MODE0] = SHAPER_FM_EXP1, [MODE1] = SHAPER_HARD_CLIP, [RATE] = 48000, [COUNT0] = shaper_card_counts[0],
+        [COUNT1] = shaper_card_counts[1], [COUNT2] = shaper_card_counts[2], [ASKED] = 1, [STEP] = UINT32_MAX};
     for (unsigned i = 0; i < sizeof shapes / sizeof *shapes; i++) {
         const uint32_t *s = shapes[i];
         n[FACTOR] = s[0], n[LANES] = s[1], n[ACTIVE] = s[2], n[FRAMES] = s[3], n[FIRST] = s[4], n[COUNT] = s[5];
@@ -336,7 +353,10 @@ int main(void)
         check_absent(PREPARE, n);
         check_absent(RUN, n);
     }
-    check(seen[DECIMATE] == 0x1dc && seen[PREPARE] == 0x1be && seen[STRETCH_OF] == 0x9c && seen[RUN] == 0x1fe, "every refusal's number");
+    const unsigned all = SIZED | BIT(SHAPER_BAD_MODE) | BIT(SHAPER_BAD_RATE) | BIT(SHAPER_SHORT_WRITE);
+    check(seen[DECIMATE] == (SIZED | BIT(SHAPER_BAD_DESIGN) | BIT(SHAPER_SHORT_WRITE)) && seen[PREPARE] == all
+            && seen[STRETCH_OF] == SIZED && seen[RUN] == (all | BIT(SHAPER_BAD_DESIGN)),
+        "every refusal's number");
 
     n[FACTOR] = 2, n[LANES] = 3, n[ACTIVE] = 2, n[FRAMES] = 33, n[FIRST] = 1, n[COUNT] = 32;
     check_modes(n);

@@ -19,14 +19,14 @@ static void check(int right, const char *what)
         fprintf(stderr, "differs: %s\n", what);
 }
 
-static uint32_t bits(float x)
+static inline uint32_t bits(float x)
 {
     uint32_t pattern;
     memcpy(&pattern, &x, sizeof pattern);
     return pattern;
 }
 
-static int answered(struct shaper_answer answer, uint32_t number, uint32_t frames)
+static inline int answered(struct shaper_answer answer, uint32_t number, uint32_t frames)
 {
     return answer.number == number && answer.frames == frames;
 }

@@ -1,5 +1,6 @@
 //! Prints the constants that the Rust folds, as a table of bit patterns,
-//! then the three half-band designs and the sine and arctangent numbers.
+//! then the three half-band designs, the sine and arctangent numbers and the
+//! modes' names by number.
 //! Constants with a name in the source are taken from the published crate;
 //! literals are written as the source writes them.
 
@@ -11,8 +12,8 @@ use published::api::lanes::{ATAN, SIN, TWO_32};
 use published::api::wave::{VALVE_BIAS, VALVE_LN_COSH_BIAS, VALVE_TANH_BIAS};
 use published::shaper::{
     CURVE_RESOLUTION, DRIVE_MAX_DB, FM_MAX_HZ, FOLD_DRIVE_MAX_DB, LEAN_MAX, MAX_CURVE_STRETCH,
-    PD_MAX_CYCLES, PINCH_MAX, PULSE_MAX, QUANTISE_MAX_STEPS, QUANTISE_MIN_STEPS, SYNC_MAX_RATIO,
-    TRANSITION,
+    Mode, PD_MAX_CYCLES, PINCH_MAX, PULSE_MAX, QUANTISE_MAX_STEPS, QUANTISE_MIN_STEPS,
+    SYNC_MAX_RATIO, TRANSITION,
 };
 
 /// A finite float as an odd whole number times a power of two.
@@ -124,5 +125,8 @@ fn main() {
     }
     for (i, x) in ATAN.iter().enumerate() {
         println!("ATAN[{i}] {:#010x} {x:e}", x.to_bits());
+    }
+    for mode in Mode::ALL {
+        println!("mode {} {mode:?}", mode as u32);
     }
 }
