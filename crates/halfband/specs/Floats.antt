@@ -3,7 +3,7 @@ use mathlib.Core.List.{List, [], _∷_}
 use Prim.Native.Nat.{ℕ}
 use lib.ListN.{getD, take, drop}
 use lib.Ieee.{Float, nan}
-use Rattle.floats.specs.F32.{_⊕_, _⊖_, _⊗_, bits, 0f, half}
+use Rattle.floats.specs.F32.{_⊕_, _⊖_, _⊗_, bits, 0f, ½f}
 use Rattle.halfband.specs.declared.design.Design.{Design}
 use Rattle.halfband.specs.declared.design.Designs.{Designs}
 use Rattle.halfband.specs.Halfband.{Kind, Sections}
@@ -15,7 +15,7 @@ floats =
       none = nan;
       load = λ cell. cell;
       section = λ c x y input. (input ⊖ y) ⊗ c ⊕ x;
-      mix = λ p q. (p ⊕ q) ⊗ half;
+      mix = λ p q. (p ⊕ q) ⊗ ½f;
     }
 
 abbrev pub sections : List Float → ℕ → Sections Float

@@ -4,7 +4,7 @@ use mathlib.Core.List.{List}
 use lib.ListN.{getD}
 use lib.Ieee as Ieee
 use lib.Ieee.{Float, nan}
-use Rattle.floats.specs.F32.{_⊕_, _⊖_, _⊗_, _⊘_, bits, 0f, 1f, 2f, 4f, half, quarter, tau}
+use Rattle.floats.specs.F32.{_⊕_, _⊖_, _⊗_, _⊘_, bits, 0f, 1f, 2f, 4f, ½f, ¼f, tau}
 use Rattle.floats.specs.Steps.{_>>=_}
 use Rattle.floats.specs.Floor.{floorOf}
 use Rattle.floats.specs.Sign.{absOf, signBit}
@@ -47,10 +47,10 @@ horner ks x (suc left) p = horner ks x left (mulAdd p x (getD ks left nan))
 -- with the five numbers of `SIN`
 unfoldable pub sinCycles : List Float → Float → Float
 sinCycles ks t = do
-  whole ← floorOf (t ⊕ half)
+  whole ← floorOf (t ⊕ ½f)
   wrapped ← t ⊖ whole
   a₀ ← absOf wrapped
-  a ← minOf a₀ (half ⊖ a₀)
+  a ← minOf a₀ (½f ⊖ a₀)
   x ← a ⊗ tau
   x2 ← x ⊗ x
   p ← horner ks x2 4 (getD ks 4 nan)
@@ -59,7 +59,7 @@ sinCycles ks t = do
 
 -- sin_cycles(t + 0.25)
 unfoldable pub cosCycles : List Float → Float → Float
-cosCycles ks t = sinCycles ks (t ⊕ quarter)
+cosCycles ks t = sinCycles ks (t ⊕ ¼f)
 
 -- |x| x / (one + x.mul_add(x, one).sqrt())
 unfoldable pub halfOf : Float → Float

@@ -4,7 +4,7 @@ use mathlib.Core.List.{List}
 use lib.ListN.{getD}
 use lib.Ieee as Ieee
 use lib.Ieee.{Float, nan, binary32}
-use Rattle.floats.specs.F32.{_⊕_, _⊖_, _⊗_, _⊘_, bits, 0f, 1f, half}
+use Rattle.floats.specs.F32.{_⊕_, _⊖_, _⊗_, _⊘_, bits, 0f, 1f, ½f}
 use Rattle.floats.specs.Steps.{_>>=_, if_then_else_}
 use Rattle.floats.specs.Floor.{floorOf}
 use Rattle.floats.specs.Casts.{castWord, asSigned}
@@ -30,7 +30,7 @@ signedOf word = Ieee.ofInt binary32 (asSigned word) ⊗ (1f ⊘ two32)
 -- the test against 2 ^ 31 is the Rust's
 unfoldable pub toWord : Float → ℕ
 toWord x = do
-  down ← floorOf (x ⊕ half)
+  down ← floorOf (x ⊕ ½f)
   wrapped ← x ⊖ down
   scaled ← wrapped ⊗ two32
   if Ieee.le (bits 0x4f00_0000) scaled then 2 ^ 31 else castWord scaled

@@ -3,7 +3,7 @@
 use Prim.Native.Nat.{ℕ}
 use mathlib.Core.List.{List}
 use lib.Ieee.{Float}
-use Rattle.floats.specs.F32.{_⊕_, _⊖_, _⊗_, _⊘_, bits, 0f, 1f, 2f, half}
+use Rattle.floats.specs.F32.{_⊕_, _⊖_, _⊗_, _⊘_, bits, 0f, 1f, 2f, ½f}
 use Rattle.floats.specs.Steps.{_>>=_}
 use Rattle.floats.specs.Floor.{floorOf}
 use Rattle.lanes.specs.Lane.{mulAdd}
@@ -23,7 +23,7 @@ unitOf word = do
 -- x - (x + 0.5).floor()
 unfoldable pub wrapOf : Float → Float
 wrapOf x = do
-  whole ← floorOf (x ⊕ half)
+  whole ← floorOf (x ⊕ ½f)
   x ⊖ whole
 
 -- |x| smoothstep((x + half) / width)

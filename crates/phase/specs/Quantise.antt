@@ -1,7 +1,7 @@
 -- `quantise` of phase.rs, in its steps. Definitions only.
 use Prim.Native.Nat.{ℕ}
 use lib.Ieee.{Float}
-use Rattle.floats.specs.F32.{_⊕_, _⊖_, _⊗_, _⊘_, bits, 0f, 1f, 2f, half}
+use Rattle.floats.specs.F32.{_⊕_, _⊖_, _⊗_, _⊘_, bits, 0f, 1f, 2f, ½f}
 use Rattle.floats.specs.Steps.{_>>=_}
 use Rattle.floats.specs.Floor.{floorOf}
 use Rattle.floats.specs.Sign.{absOf}
@@ -28,7 +28,7 @@ stepsOf a h = do
 unfoldable pub lineOf : Float → Float → Line
 lineOf steps x = do
   last ← floorOf (steps ⊖ bits 0x38d1_b717)
-  near ← floorOf (x ⊕ half)
+  near ← floorOf (x ⊕ ½f)
   kept ← clampOf near 1f (bits 0x7f7f_ffff)
   k ← minOf kept last
   record { k = k; last = last }
@@ -48,7 +48,7 @@ edgeOf steps step word = do
   left ← pickOf atEnd ((line .k ⊖ 1f) ⊗ step) (line .last ⊗ step ⊖ 1f)
   right ← pickOf atEnd (line .k ⊗ step) 0f
   picked ← pickOf atEnd u t
-  record { distance = distance; left = left; right = right; target = picked ⊖ step ⊗ half }
+  record { distance = distance; left = left; right = right; target = picked ⊖ step ⊗ ½f }
 
 -- (target - left).mul_add(toward, left), as a word
 unfoldable pub branchOf : Float → Float → Float → ℕ

@@ -3,7 +3,7 @@ use Prim.Native.Nat.{ℕ}
 use mathlib.Core.Bool.{cond}
 use mathlib.Core.List.{[], _∷_}
 use lib.Ieee.{Float}
-use Rattle.floats.specs.F32.{_⊕_, _⊖_, _⊗_, _⊘_, 0f, 1f, 2f, 4f, half}
+use Rattle.floats.specs.F32.{_⊕_, _⊖_, _⊗_, _⊘_, 0f, 1f, 2f, 4f, ½f}
 use Rattle.floats.specs.Steps.{_>>=_}
 use Rattle.floats.specs.Sign.{absOf}
 use Rattle.floats.specs.Sqrt.{sqrtOf}
@@ -20,7 +20,7 @@ unfoldable pub leanSteepest : Float → Float
 leanSteepest beta = do
   b ← absOf beta
   root ← sqrtOf (b ⊗ b ⊕ 4f)
-  (b ⊗ b ⊕ 2f ⊕ b ⊗ root) ⊗ half
+  (b ⊗ b ⊕ 2f ⊕ b ⊗ root) ⊗ ½f
 
 unfoldable pub pinchSlope : ℕ → Float → Float
 pinchSlope mode a = do

@@ -5,7 +5,7 @@ use mathlib.Core.Option.{Option, some, none}
 use mathlib.Core.List.{List}
 use lib.ListN.{getD}
 use lib.Ieee.{Float, nan}
-use Rattle.floats.specs.F32.{_⊕_, _⊖_, _⊗_, _⊘_, bits, 0f, 1f, 100f, half}
+use Rattle.floats.specs.F32.{_⊕_, _⊖_, _⊗_, _⊘_, bits, 0f, 1f, 100f, ½f}
 use Rattle.floats.specs.Steps.{_>>=_, if_then_else_}
 use Rattle.floats.specs.Sign.{absOf}
 use Rattle.lanes.specs.Lane.{minOf, maxOf}
@@ -75,7 +75,7 @@ fmSlope a x perHertz = a ⊗ a ⊗ a ⊗ a ⊗ fmMaxHz ⊗ x ⊗ perHertz
 
 -- amount * PD_MAX_CYCLES * (step / factor as f32) * 4_294_967_296.0
 unfoldable pub pdSlope : Float → Float → ℕ → Float
-pdSlope a step factor = a ⊗ half ⊗ (step ⊘ whole factor) ⊗ two32
+pdSlope a step factor = a ⊗ ½f ⊗ (step ⊘ whole factor) ⊗ two32
 
 -- += match modulated; AM and Ring move the value and not the read
 abbrev pub addedBy : Float → Swing → ℕ → Float → Float → Fact (Option Modulated) → Float

@@ -6,7 +6,7 @@ use mathlib.Core.List.{List}
 use lib.IntN.{pos}
 use lib.Ieee as Ieee
 use lib.Ieee.{Float, binary32}
-use Rattle.floats.specs.F32.{_⊕_, _⊖_, _⊗_, _⊘_, bits, 2f, half}
+use Rattle.floats.specs.F32.{_⊕_, _⊖_, _⊗_, _⊘_, bits, 2f, ½f}
 use Rattle.floats.specs.Steps.{_>>=_, if_then_else_}
 use Rattle.floats.specs.Floor.{floorOf}
 use Rattle.floats.specs.Exp2.{exp2Of}
@@ -74,7 +74,7 @@ fmCycles a scale s = a ⊗ a ⊗ a ⊗ a ⊗ scale ⊗ s
 unfoldable pub carriedOn : Float → Float → Offset
 carriedOn carry cycles = do
   sum ← carry ⊕ cycles
-  down ← floorOf (sum ⊕ half)
+  down ← floorOf (sum ⊕ ½f)
   carried ← sum ⊖ down
   word ← toWord carried
   record { word = word; carry = carried }
@@ -96,7 +96,7 @@ fmOffset linear a s scale increment carry = do
 -- match modulated; PD_MAX_CYCLES is one half
 abbrev pub offsetBy : Float → Float → Float → Float → Float → Fact (Option Modulated) → Offset
 offsetBy a s scale increment carry (given (some (fm kind))) = fmOffset kind a s scale increment carry
-offsetBy a s scale increment carry (given (some phaseDistortion)) = record { word = toWord (a ⊗ half ⊗ s); carry = carry }
+offsetBy a s scale increment carry (given (some phaseDistortion)) = record { word = toWord (a ⊗ ½f ⊗ s); carry = carry }
 offsetBy a s scale increment carry (given (some am)) = record { word = 0; carry = carry }
 offsetBy a s scale increment carry (given (some ring)) = record { word = 0; carry = carry }
 offsetBy a s scale increment carry (given none) = record { word = 0; carry = carry }
@@ -122,7 +122,7 @@ mapSlot sk ak curve slot control h list = if inPhase (slot .mode) then applyOf s
 -- increment * (TRANSITION * 0.5 * factor as f32): half the width of an edge. TRANSITION, 2, is in host samples, the increment is for a
 -- rendered one
 unfoldable pub halfWidth : Float → ℕ → Float
-halfWidth increment factor = increment ⊗ (2f ⊗ half ⊗ whole factor)
+halfWidth increment factor = increment ⊗ (2f ⊗ ½f ⊗ whole factor)
 
 -- `reads_of`: slot 1's map, slot 0's with half width times `inner`, slot 1's offset, slot 0's
 unfoldable pub listOf : List Float → List Float → List Float → Slot → Slot → ℕ → Float → Control → Control → Float → ℕ → Float → Float → Float → Reads

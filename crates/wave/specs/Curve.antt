@@ -3,7 +3,7 @@ use Prim.Native.Nat.{ℕ}
 use mathlib.Core.List.{List, [], _∷_}
 use lib.Ieee as Ieee
 use lib.Ieee.{Float}
-use Rattle.floats.specs.F32.{_⊕_, _⊖_, _⊗_, _⊘_, bits, 0f, 1f, 2f, 4f, half, quarter, tau}
+use Rattle.floats.specs.F32.{_⊕_, _⊖_, _⊗_, _⊘_, bits, 0f, 1f, 2f, 4f, ½f, ¼f, tau}
 use Rattle.floats.specs.Steps.{_>>=_}
 use Rattle.floats.specs.Floor.{floorOf}
 use Rattle.floats.specs.Sign.{absOf}
@@ -57,7 +57,7 @@ diode1Curve x = do
   positive ← maxOf x 0f
   negative ← minOf x 0f
   p ← expOf (Ieee.neg positive)
-  n ← expOf (negative ⊗ half)
+  n ← expOf (negative ⊗ ½f)
   (1f ⊖ p) ⊖ 2f ⊗ (1f ⊖ n)
 
 -- sign(x) * (one - exp(-x.abs()))
@@ -71,13 +71,13 @@ diode2Curve x = do
 -- one - (4.0 * (t - t.floor()) - 2.0).abs()
 unfoldable pub foldCurve : Float → Float
 foldCurve x = do
-  t ← (x ⊕ 1f) ⊗ quarter
+  t ← (x ⊕ 1f) ⊗ ¼f
   whole ← floorOf t
   a ← absOf (4f ⊗ (t ⊖ whole) ⊖ 2f)
   1f ⊖ a
 
 unfoldable pub sineFoldCurve : List Float → Float → Float
-sineFoldCurve sk x = sinCycles sk (x ⊗ quarter)
+sineFoldCurve sk x = sinCycles sk (x ⊗ ¼f)
 
 unfoldable pub zeroSquareCurve : Float → Float
 zeroSquareCurve x = do
@@ -89,8 +89,8 @@ asymmetricCurve x = do
   positive ← maxOf x 0f
   negative ← minOf x 0f
   p ← tanhOf (positive ⊗ 2f)
-  n ← tanhOf (negative ⊗ half)
-  p ⊗ half ⊕ n ⊗ 2f
+  n ← tanhOf (negative ⊗ ½f)
+  p ⊗ ½f ⊕ n ⊗ 2f
 
 unfoldable pub rectifyCurve : Float → Float
 rectifyCurve x = absOf x

@@ -3,7 +3,7 @@ use Prim.Native.Nat.{ℕ}
 use mathlib.Core.List.{List, [], _∷_}
 use lib.Ieee as Ieee
 use lib.Ieee.{Float}
-use Rattle.floats.specs.F32.{_⊕_, _⊖_, _⊗_, _⊘_, bits, 0f, 1f, 2f, 4f, half, quarter, tau}
+use Rattle.floats.specs.F32.{_⊕_, _⊖_, _⊗_, _⊘_, bits, 0f, 1f, 2f, 4f, ½f, ¼f, tau}
 use Rattle.floats.specs.Steps.{_>>=_}
 use Rattle.floats.specs.Floor.{floorOf}
 use Rattle.floats.specs.Sign.{absOf}
@@ -37,13 +37,13 @@ softClipIntegral x = do
   z ← within threeHalves x
   z2 ← z ⊗ z
   past ← beyondOf x z
-  z2 ⊗ half ⊖ z2 ⊗ z2 ⊗ (1f ⊘ 27f) ⊕ past
+  z2 ⊗ ½f ⊖ z2 ⊗ z2 ⊗ (1f ⊘ 27f) ⊕ past
 
 unfoldable pub hardClipIntegral : Float → Float
 hardClipIntegral x = do
   z ← within 1f x
   past ← beyondOf x z
-  z ⊗ z ⊗ half ⊕ past
+  z ⊗ z ⊗ ½f ⊕ past
 
 -- (positive + exp(-positive) - one) + (4.0 * exp(negative * 0.5) - 2.0 * negative - 4.0)
 unfoldable pub diode1Integral : Float → Float
@@ -51,7 +51,7 @@ diode1Integral x = do
   positive ← maxOf x 0f
   negative ← minOf x 0f
   p ← expOf (Ieee.neg positive)
-  n ← expOf (negative ⊗ half)
+  n ← expOf (negative ⊗ ½f)
   (positive ⊕ p ⊖ 1f) ⊕ (4f ⊗ n ⊖ 2f ⊗ negative ⊖ 4f)
 
 unfoldable pub diode2Integral : Float → Float
@@ -62,15 +62,15 @@ diode2Integral x = do
 
 unfoldable pub foldIntegral : Float → Float
 foldIntegral x = do
-  t ← (x ⊕ 1f) ⊗ quarter
+  t ← (x ⊕ 1f) ⊗ ¼f
   whole ← floorOf t
   s ← 2f ⊗ (t ⊖ whole) ⊖ 1f
   a ← absOf s
-  2f ⊗ s ⊗ (1f ⊖ a) ⊕ half
+  2f ⊗ s ⊗ (1f ⊖ a) ⊕ ½f
 
 unfoldable pub sineFoldIntegral : List Float → Float → Float
 sineFoldIntegral sk x = do
-  k ← cosCycles sk (x ⊗ quarter)
+  k ← cosCycles sk (x ⊗ ¼f)
   (1f ⊖ k) ⊗ (2f ⊘ pi)
 
 -- a * a * a * (1.0 / 3.0) + beyond(z)
@@ -86,13 +86,13 @@ asymmetricIntegral x = do
   positive ← maxOf x 0f
   negative ← minOf x 0f
   p ← lnCosh (positive ⊗ 2f)
-  n ← lnCosh (negative ⊗ half)
-  p ⊗ quarter ⊕ n ⊗ 4f
+  n ← lnCosh (negative ⊗ ½f)
+  p ⊗ ¼f ⊕ n ⊗ 4f
 
 unfoldable pub rectifyIntegral : Float → Float
 rectifyIntegral x = do
   a ← absOf x
-  x ⊗ a ⊗ half
+  x ⊗ a ⊗ ½f
 
 unfoldable pub sineShaperIntegral : List Float → Float → Float
 sineShaperIntegral sk x = do
@@ -108,7 +108,7 @@ pedalIntegral x = do
   clipped ← minOf positive 1f
   negative ← minOf x 0f
   root ← sqrtOf (mulAdd negative negative 1f)
-  clipped ⊗ clipped ⊗ half ⊕ (positive ⊖ clipped) ⊕ root ⊖ 1f
+  clipped ⊗ clipped ⊗ ½f ⊕ (positive ⊖ clipped) ⊕ root ⊖ 1f
 
 unfoldable pub tapeIntegral : Float → Float
 tapeIntegral x = do
@@ -140,4 +140,4 @@ integralOf sk mode x =
     (numberOf Tape ⇒ tapeIntegral x) ∷
     (numberOf SoftSaturate ⇒ softSaturateIntegral x) ∷
     [])
-    (x ⊗ x ⊗ half)
+    (x ⊗ x ⊗ ½f)

@@ -2,7 +2,7 @@
 use Prim.Native.Nat.{ℕ}
 use mathlib.Core.List.{List, [], _∷_}
 use lib.Ieee.{Float}
-use Rattle.floats.specs.F32.{_⊕_, _⊖_, _⊗_, _⊘_, bits, 1f, half}
+use Rattle.floats.specs.F32.{_⊕_, _⊖_, _⊗_, _⊘_, bits, 1f, ½f}
 use Rattle.floats.specs.Steps.{_>>=_}
 use Rattle.floats.specs.Sign.{absOf}
 use Rattle.floats.specs.Exp2.{exp2Of}
@@ -65,7 +65,7 @@ apartOf driven last = do
 -- (y - linear).mul_add(a, linear)
 unfoldable pub blendOf : ℕ → Float → Float → Float → Float → Float
 blendOf mode a x last y = do
-  linear ← (x ⊕ last) ⊗ half
+  linear ← (x ⊕ last) ⊗ ½f
   caseOf mode ((numberOf Rectify ⇒ mulAdd (y ⊖ linear) a linear) ∷ []) y
 
 -- `distort_smooth` from the driven input on
@@ -77,7 +77,7 @@ smoothOf sk mode a driven x state = do
   apart ← apartOf driven last
   divisor ← pickOf apart 1f step
   mean ← (area ⊖ state .ic2) ⊘ divisor
-  midpoint ← curveOf sk mode ((driven ⊕ last) ⊗ half)
+  midpoint ← curveOf sk mode ((driven ⊕ last) ⊗ ½f)
   y ← pickOf apart midpoint mean
   blended ← blendOf mode a x last y
   record { y = blended; state = record { ic1 = driven; ic2 = area } }
