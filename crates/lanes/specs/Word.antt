@@ -19,9 +19,12 @@ addWords a b = (a + b) % 2 ^ 32
 unfoldable pub pickWord : Float → ℕ → ℕ → ℕ
 pickWord mask a b = addWords a (addWords b (2 ^ 32 - a) * castWord mask % 2 ^ 32)
 
--- 2 ^ 32
+-- 2 ^ 32 and 2 ^ 31
 abbrev pub two32 : Float
 two32 = bits 0x4f80_0000
+
+abbrev pub two31 : Float
+two31 = bits 0x4f00_0000
 
 -- word as i32 as f32 * (1.0 / TWO_32)
 unfoldable pub signedOf : ℕ → Float
@@ -33,9 +36,9 @@ toWord x = do
   down ← floorOf (x ⊕ ½f)
   wrapped ← x ⊖ down
   scaled ← wrapped ⊗ two32
-  if Ieee.le (bits 0x4f00_0000) scaled then 2 ^ 31 else castWord scaled
+  if Ieee.le two31 scaled then 2 ^ 31 else castWord scaled
 
--- With 1,024 segments, as every call has: the numbers are `segments as f32` and `(segments - 1) as f32`.
+-- With 1,024 segments, as every call has: the numbers are 1,024, `segments as f32`, and 1,023, `(segments - 1) as f32`.
 -- A NaN's index is 0 (`Ieee.toUnsigned`, which is `as usize`)
 unfoldable pub lookupOf : List Float → Float → Float
 lookupOf table x = do

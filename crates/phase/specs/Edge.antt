@@ -10,7 +10,7 @@ use Rattle.lanes.specs.Lane.{mulAdd}
 use Rattle.lanes.specs.Maths.{clampOf, smoothstepOf, sinCycles, cosCycles, atanOf}
 use Rattle.lanes.specs.Word.{signedOf, lookupOf}
 
--- FRAC_1_PI
+-- FRAC_1_PI: 0.31830987
 abbrev pub frac1pi : Float
 frac1pi = bits 0x3ea2_f983
 

@@ -5,7 +5,7 @@ use mathlib.Core.List.{List, [], _∷_}
 use lib.ListN.{getD}
 use lib.Ieee as Ieee
 use lib.Ieee.{Float, nan}
-use Rattle.floats.specs.F32.{_⊕_, _⊖_, _⊗_, _⊘_, bits, 0f, 1f, 2f, 4f, ½f, ¼f, tau}
+use Rattle.floats.specs.F32.{_⊕_, _⊖_, _⊗_, _⊘_, 0f, 1f, 2f, 4f, ½f, ¼f, 1½f, tau}
 use Rattle.floats.specs.Steps.{_>>=_}
 use Rattle.floats.specs.Floor.{floorOf}
 use Rattle.lanes.specs.Lane.{mulAdd, minOf, maxOf}
@@ -80,14 +80,14 @@ flipMap a h word gain out = do
   out₁ ← weightedOf out
   pushOf out₁ word (gain ⊗ (1f ⊖ 2f ⊗ inverted))
 
--- Mode::Mirror; the number is 1.5
+-- Mode::Mirror
 unfoldable pub mirrorMap : List Float → List Float → Float → Float → ℕ → Float → ReadList → ReadList
 mirrorMap sk ak a h word gain out = do
   beta ← Ieee.neg a ⊗ leanMax
   u ← unitOf word
   v ← wrapOf (u ⊖ ¼f)
   forwardAt ← (¼f ⊕ v) ⊗ 2f
-  backwardAt ← bits 0x3fc0_0000 ⊖ v ⊗ 2f
+  backwardAt ← 1½f ⊖ v ⊗ 2f
   forwardBy ← leanOffset sk ak forwardAt beta
   forward ← (forwardAt ⊕ forwardBy) ⊗ ½f
   backwardBy ← leanOffset sk ak backwardAt beta

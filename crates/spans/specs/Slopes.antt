@@ -29,9 +29,16 @@ rowsIn frames s = min subBlock (frames - s * subBlock)
 unfoldable pub widened : Bounds → Float → Bounds
 widened b x = record { low = minOf (b .low) x; high = maxOf (b .high) x }
 
--- from +infinity and -infinity: with modulation the base alone is never the amount
+-- +infinity, from which a minimum starts, and -infinity, from which a maximum does
+abbrev pub plusInfinity : Float
+plusInfinity = bits 0x7f80_0000
+
+abbrev pub minusInfinity : Float
+minusInfinity = bits 0xff80_0000
+
+-- with modulation the base alone is never the amount
 unfoldable pub boundsTo : Float → List Float → ℕ → ℕ → Bounds
-boundsTo base xs from zero = record { low = bits 0x7f80_0000; high = bits 0xff80_0000 }
+boundsTo base xs from zero = record { low = plusInfinity; high = minusInfinity }
 boundsTo base xs from (suc k) = widened (boundsTo base xs from k) (base ⊕ getD xs (from + k) nan)
 
 unfoldable pub boundsOf : Float → Option (List Float) → ℕ → ℕ → Bounds

@@ -51,12 +51,16 @@ saysOwn (refused n) = false
 unfoldable pub isOwn : ℕ → Bool
 isOwn mode = saysOwn (sourceOf mode)
 
+-- 2.0 * LN_2: 1.3862944
+abbrev pub twoLn2 : Float
+twoLn2 = bits 0x3fb1_7218
+
 -- (s.exp2() - (-s).exp2()) / (2.0 * LN_2)
 unfoldable pub fmExponential : Float → Float
 fmExponential s = do
   up ← exp2Of s
   down ← exp2Of (Ieee.neg s)
-  (up ⊖ down) ⊘ bits 0x3fb1_7218
+  (up ⊖ down) ⊘ twoLn2
 
 -- FM_MAX_HZ: 83,750
 abbrev pub fmMaxHz : Float

@@ -3,7 +3,7 @@ use Prim.Native.Nat.{ℕ}
 use mathlib.Core.List.{List, [], _∷_}
 use lib.Ieee as Ieee
 use lib.Ieee.{Float}
-use Rattle.floats.specs.F32.{_⊕_, _⊖_, _⊗_, _⊘_, bits, 0f, 1f, 2f, 4f, ½f, ¼f, tau}
+use Rattle.floats.specs.F32.{_⊕_, _⊖_, _⊗_, _⊘_, bits, 0f, 1f, 2f, 4f, 27f, ½f, ¼f, 1½f, tau}
 use Rattle.floats.specs.Steps.{_>>=_}
 use Rattle.floats.specs.Floor.{floorOf}
 use Rattle.floats.specs.Sign.{absOf}
@@ -13,28 +13,22 @@ use Rattle.lanes.specs.Maths.{signOf, clampOf, sinCycles, tanhOf, expOf}
 use Rattle.modes.specs.Mode.{numberOf, Valve, SoftClip, HardClip, Diode1, Diode2, Fold, SineFold, ZeroSquare, Asymmetric, Rectify, SineShaper, Pedal, Tape, SoftSaturate}
 use Rattle.modes.specs.Choice.{Case, _⇒_, caseOf}
 
--- VALVE_TANH_BIAS, VALVE_BIAS
+-- VALVE_TANH_BIAS, 0.24491866, and VALVE_BIAS, 0.25
 abbrev pub valveTanhBias : Float
 valveTanhBias = bits 0x3e7a_cbf5
 
 abbrev pub valveBias : Float
-valveBias = bits 0x3e80_0000
+valveBias = ¼f
 
 -- 1.0 / (1.0 - VALVE_TANH_BIAS * VALVE_TANH_BIAS)
 abbrev pub valveScale : Float
 valveScale = 1f ⊘ (1f ⊖ valveTanhBias ⊗ valveTanhBias)
 
-abbrev pub 27f : Float
-27f = bits 0x41d8_0000
-
 -- `x` clamped to ±knee
 abbrev pub within : Float → Float → Float
 within knee x = clampOf x (Ieee.neg knee) knee
 
--- 1.5, FRAC_PI_2
-abbrev pub threeHalves : Float
-threeHalves = bits 0x3fc0_0000
-
+-- FRAC_PI_2: 1.5707964
 abbrev pub fracPi2 : Float
 fracPi2 = bits 0x3fc9_0fdb
 
@@ -45,7 +39,7 @@ valveCurve x = do
 
 unfoldable pub softClipCurve : Float → Float
 softClipCurve x = do
-  z ← within threeHalves x
+  z ← within 1½f x
   z ⊖ z ⊗ z ⊗ z ⊗ (4f ⊘ 27f)
 
 unfoldable pub hardClipCurve : Float → Float

@@ -3,7 +3,7 @@ use Prim.Native.Nat.{ℕ}
 use mathlib.Core.List.{List, [], _∷_}
 use lib.Ieee as Ieee
 use lib.Ieee.{Float}
-use Rattle.floats.specs.F32.{_⊕_, _⊖_, _⊗_, _⊘_, bits, 0f, 1f, 2f, 4f, ½f, ¼f, tau}
+use Rattle.floats.specs.F32.{_⊕_, _⊖_, _⊗_, _⊘_, bits, 0f, 1f, 2f, 3f, 4f, 27f, ½f, ¼f, 1½f, tau}
 use Rattle.floats.specs.Steps.{_>>=_}
 use Rattle.floats.specs.Floor.{floorOf}
 use Rattle.floats.specs.Sign.{absOf}
@@ -13,9 +13,9 @@ use Rattle.lanes.specs.Maths.{cosCycles, expOf, lnOf, lnCosh}
 use Rattle.modes.specs.Mode.{numberOf, Valve, SoftClip, HardClip, Diode1, Diode2, Fold, SineFold, ZeroSquare, Asymmetric, Rectify, SineShaper, Pedal, Tape, SoftSaturate}
 use Rattle.modes.specs.Choice.{Case, _⇒_, caseOf}
 use Rattle.wave.specs.Filter.{pi}
-use Rattle.wave.specs.Curve.{valveTanhBias, valveBias, valveScale, 27f, within, threeHalves, fracPi2}
+use Rattle.wave.specs.Curve.{valveTanhBias, valveBias, valveScale, within, fracPi2}
 
--- VALVE_LN_COSH_BIAS
+-- VALVE_LN_COSH_BIAS: 0.0309298
 abbrev pub valveLnCoshBias : Float
 valveLnCoshBias = bits 0x3cfd_607e
 
@@ -34,7 +34,7 @@ valveIntegral x = do
 
 unfoldable pub softClipIntegral : Float → Float
 softClipIntegral x = do
-  z ← within threeHalves x
+  z ← within 1½f x
   z2 ← z ⊗ z
   past ← beyondOf x z
   z2 ⊗ ½f ⊖ z2 ⊗ z2 ⊗ (1f ⊘ 27f) ⊕ past
@@ -79,7 +79,7 @@ zeroSquareIntegral x = do
   z ← within 1f x
   a ← absOf z
   past ← beyondOf x z
-  a ⊗ a ⊗ a ⊗ (1f ⊘ bits 0x4040_0000) ⊕ past
+  a ⊗ a ⊗ a ⊗ (1f ⊘ 3f) ⊕ past
 
 unfoldable pub asymmetricIntegral : Float → Float
 asymmetricIntegral x = do

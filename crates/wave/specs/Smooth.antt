@@ -2,7 +2,7 @@
 use Prim.Native.Nat.{ℕ}
 use mathlib.Core.List.{List, [], _∷_}
 use lib.Ieee.{Float}
-use Rattle.floats.specs.F32.{_⊕_, _⊖_, _⊗_, _⊘_, bits, 1f, ½f}
+use Rattle.floats.specs.F32.{_⊕_, _⊖_, _⊗_, _⊘_, bits, 1f, 18f, 30f, ½f, hundredth}
 use Rattle.floats.specs.Steps.{_>>=_}
 use Rattle.floats.specs.Sign.{absOf}
 use Rattle.floats.specs.Exp2.{exp2Of}
@@ -15,18 +15,22 @@ use Rattle.wave.specs.declared.filters.Filtered.{Filtered}
 use Rattle.wave.specs.Curve.{curveOf}
 use Rattle.wave.specs.Integral.{integralOf}
 
--- FOLD_DRIVE_MAX_DB (18) and DRIVE_MAX_DB (30)
+-- the most decibels of drive: FOLD_DRIVE_MAX_DB, 18, and DRIVE_MAX_DB, 30
 unfoldable pub mostOf : ℕ → Float
 mostOf mode =
     caseOf mode
-    ((numberOf Fold ⇒ bits 0x4190_0000) ∷ (numberOf SineFold ⇒ bits 0x4190_0000) ∷ [])
-    (bits 0x41f0_0000)
+    ((numberOf Fold ⇒ 18f) ∷ (numberOf SineFold ⇒ 18f) ∷ [])
+    30f
+
+-- 6.0206: the decibels of a factor of 2
+abbrev pub octaveDb : Float
+octaveDb = bits 0x40c0_a8c1
 
 -- (a * (most / 6.020_6)).exp2()
 unfoldable pub driveOf : ℕ → Float → Float
 driveOf mode a = do
   most ← mostOf mode
-  exp2Of (a ⊗ (most ⊘ bits 0x40c0_a8c1))
+  exp2Of (a ⊗ (most ⊘ octaveDb))
 
 -- the drive of a slot's setting: Rectify is not driven
 unfoldable pub gainOf : ℕ → Float → Float
@@ -60,7 +64,7 @@ apartOf driven last = do
   larger ← maxOf size lastSize
   scale ← maxOf larger 1f
   far ← absOf step
-  aboveOf (far ⊖ scale ⊗ bits 0x3c23_d70a)
+  aboveOf (far ⊖ scale ⊗ hundredth)
 
 -- (y - linear).mul_add(a, linear)
 unfoldable pub blendOf : ℕ → Float → Float → Float → Float → Float
