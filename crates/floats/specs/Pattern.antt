@@ -1,4 +1,5 @@
--- A finite f32 by its bit pattern b: its size is significandOf b * 2 ^ exponentOf b times 2 ^ -149, the smallest f32 above zero. Definitions only.
+-- A finite f32 by its bit pattern b: its size is significandOf b * 2 ^ exponentOf b times 2 ^ -149, the smallest f32 above zero.
+-- 8388608 is 2 ^ 23, below which the fraction lies, and 2147483648 is 2 ^ 31, the sign. Definitions only.
 use Prim.Native.Nat.{ℕ, _+_, _-_, _*_, _/_, _%_, _^_}
 use mathlib.Core.Bool.{cond}
 use lib.IntN.{pos}

@@ -44,7 +44,7 @@ unfoldable pub horner : List Float → Float → ℕ → Float → Float
 horner ks x zero p = p
 horner ks x (suc left) p = horner ks x left (mulAdd p x (getD ks left nan))
 
--- with the five numbers of `SIN`
+-- sin 2πt, for t in cycles, with the five numbers of `SIN`
 unfoldable pub sinCycles : List Float → Float → Float
 sinCycles ks t = do
   whole ← floorOf (t ⊕ ½f)
@@ -57,7 +57,7 @@ sinCycles ks t = do
   s ← signOf wrapped
   (p ⊗ x) ⊗ s
 
--- sin_cycles(t + 0.25)
+-- cos 2πt: sin_cycles(t + 0.25)
 unfoldable pub cosCycles : List Float → Float → Float
 cosCycles ks t = sinCycles ks (t ⊕ ¼f)
 
@@ -67,7 +67,7 @@ halfOf x = do
   root ← sqrtOf (mulAdd x x 1f)
   x ⊘ (1f ⊕ root)
 
--- with the eight numbers of `ATAN`
+-- atan x, with the eight numbers of `ATAN`
 unfoldable pub atanOf : List Float → Float → Float
 atanOf ks x₀ = do
   x₁ ← halfOf x₀
@@ -83,7 +83,7 @@ log2e = bits 0x3fb8_aa3b
 abbrev pub ln2 : Float
 ln2 = bits 0x3f31_7218
 
--- 1.0 - 2.0 / (e + 1.0), x kept to -9..9
+-- tanh x: 1.0 - 2.0 / (e + 1.0), x kept to -9..9
 unfoldable pub tanhOf : Float → Float
 tanhOf x₀ = do
   x ← clampOf x₀ (Ieee.neg 9f) 9f
@@ -105,7 +105,7 @@ lnSeries t2 = do
   p₃ ← mulAdd p₅ t2 (1f ⊘ 3f)
   mulAdd p₃ t2 (1f ⊘ 1f)
 
--- exponent.mul_add(LN_2, p * t * 2.0)
+-- ln x: exponent.mul_add(LN_2, p * t * 2.0)
 unfoldable pub lnOf : Float → Float
 lnOf x = do
   parts ← splitOf x
@@ -113,7 +113,7 @@ lnOf x = do
   p ← lnSeries (t ⊗ t)
   mulAdd (parts .exponent) ln2 (p ⊗ t ⊗ 2f)
 
--- a + ln(1.0 + exp(a * -2.0)) - LN_2
+-- ln cosh x: a + ln(1.0 + exp(a * -2.0)) - LN_2
 unfoldable pub lnCosh : Float → Float
 lnCosh x = do
   a ← absOf x
@@ -121,7 +121,7 @@ lnCosh x = do
   l ← lnOf (1f ⊕ e)
   a ⊕ l ⊖ ln2
 
--- sin_cycles(t) / cos_cycles(t)
+-- tan x: sin_cycles(t) / cos_cycles(t)
 unfoldable pub tanOf : List Float → Float → Float
 tanOf ks x = do
   t ← x ⊗ (1f ⊘ tau)

@@ -1,5 +1,5 @@
 -- The arms of `map` of phase.rs, and `apply`. `sk` and `ak` are the sine and arctangent numbers, `table` the lent curve,
--- h the crossfade's half width. Definitions only.
+-- `a` the amount, 0 to 1, h the crossfade's half width, in cycles. Definitions only.
 use Prim.Native.Nat.{ℕ, zero, suc, _^_}
 use mathlib.Core.List.{List, [], _∷_}
 use lib.ListN.{getD}

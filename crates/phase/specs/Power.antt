@@ -1,4 +1,4 @@
--- What of a slot's map goes by its mode and its amount alone. Definitions only.
+-- What of a slot's map goes by its mode and its amount `a`, 0 to 1, alone. Definitions only.
 use Prim.Native.Nat.{ℕ}
 use mathlib.Core.List.{[], _∷_}
 use lib.Ieee.{Float}

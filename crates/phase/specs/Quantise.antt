@@ -1,4 +1,4 @@
--- `quantise` of phase.rs, in its steps. Definitions only.
+-- `quantise` of phase.rs, in its steps. `a` is the amount, 0 to 1, h the crossfade's half width, in cycles. Definitions only.
 use Prim.Native.Nat.{ℕ}
 use lib.Ieee.{Float}
 use Rattle.floats.specs.F32.{_⊕_, _⊖_, _⊗_, _⊘_, bits, 0f, 1f, 2f, ½f}

@@ -1,4 +1,5 @@
--- `stretch` of phase.rs. Definitions only.
+-- `stretch` of phase.rs: how much faster than its phase a map reads at most. `a` is the amount, 0 to 1, and `curve` the steepest slope of the
+-- lent curve. Definitions only.
 use Prim.Native.Nat.{ℕ}
 use mathlib.Core.Bool.{cond}
 use mathlib.Core.List.{[], _∷_}

@@ -1,4 +1,4 @@
--- The strengths of phase.rs's maps. Definitions only.
+-- The strengths of phase.rs's maps. `a` is the amount, 0 to 1. Definitions only.
 use Prim.Native.Nat.{ℕ}
 use mathlib.Core.List.{[], _∷_}
 use lib.Ieee as Ieee

@@ -1,4 +1,5 @@
--- The phase stage of one lane at one rendered frame: `PhaseRun` of mod.rs, its carry in and out by value. Definitions only.
+-- The phase stage of one lane at one rendered frame: `PhaseRun` of mod.rs, its carry in and out by value. `a` is a slot's amount, 0 to 1,
+-- s its source's value, `increment` the phase's step, in cycles a rendered frame. Definitions only.
 use Prim.Native.Nat.{ℕ, _*_}
 use mathlib.Core.Bool.{Bool, true, false, _||_, _&&_}
 use mathlib.Core.Option.{Option, some, none}

@@ -1,4 +1,4 @@
--- The arms of `curve` of wave.rs. `sk` are the sine's numbers. Definitions only.
+-- The arms of `curve` of wave.rs, at the driven sample x. `sk` are the sine's numbers. Definitions only.
 use Prim.Native.Nat.{ℕ}
 use mathlib.Core.List.{List, [], _∷_}
 use lib.Ieee as Ieee

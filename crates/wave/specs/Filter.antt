@@ -1,4 +1,4 @@
--- The filters of wave.rs. `sk` are the sine's numbers. Definitions only.
+-- The filters of wave.rs. `sk` are the sine's numbers, `a` is the amount, 0 to 1. Definitions only.
 use Prim.Native.Nat.{ℕ}
 use mathlib.Core.List.{List, [], _∷_}
 use lib.Ieee as Ieee
@@ -29,7 +29,7 @@ dampingSpan = bits 0x3f99_999a
 abbrev pub cutoffMax : Float
 cutoffMax = bits 0x3ee6_6666
 
--- ((1.0 - a) * 11.0).exp2(), a.mul_add(12.0, -2.0).exp2()
+-- the cutoff, as a harmonic of the note: ((1.0 - a) * 11.0).exp2(), a.mul_add(12.0, -2.0).exp2()
 unfoldable pub cutoffHarmonic : ℕ → Float → Float
 cutoffHarmonic mode a =
     caseOf mode
@@ -42,7 +42,7 @@ dampingOf character = do
   kept ← clampOf character 0f 1f
   sqrt2 ⊖ dampingSpan ⊗ kept
 
--- k is the damping, and the cutoff is the harmonic times the increment, in cycles a sample
+-- k is the damping; the increment is what the note's phase moves by, in cycles a sample
 unfoldable pub filterOf : List Float → ℕ → Float → Float → Float → Float → Svf → Filtered
 filterOf sk mode harmonic increment k x state = do
   cutoff ← minOf (harmonic ⊗ increment) cutoffMax

@@ -1,4 +1,4 @@
--- The arms of `integral` of wave.rs. `sk` are the sine's numbers. Definitions only.
+-- The arms of `integral` of wave.rs: each curve's integral from 0 to x. `sk` are the sine's numbers. Definitions only.
 use Prim.Native.Nat.{ℕ}
 use mathlib.Core.List.{List, [], _∷_}
 use lib.Ieee as Ieee

@@ -1,5 +1,5 @@
--- What a slot does to one sample, `shape_of` of mod.rs for one slot: its setting, and the sample shaped by it. `sk` are the sine's numbers.
--- Definitions only.
+-- What a slot does to one sample, `shape_of` of mod.rs for one slot: its setting, and the sample shaped by it. `sk` are the sine's numbers, `a` is
+-- the slot's amount, 0 to 1, and s its source's value. Definitions only.
 use Prim.Native.Nat.{ℕ}
 use mathlib.Core.Bool.{Bool, true, false, not, _&&_}
 use mathlib.Core.Option.{Option, some, none}

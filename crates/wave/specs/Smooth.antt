@@ -1,4 +1,4 @@
--- The drive, `distort` and `distort_smooth` of wave.rs. `sk` are the sine's numbers. Definitions only.
+-- The drive, `distort` and `distort_smooth` of wave.rs. `sk` are the sine's numbers, `a` is the amount, 0 to 1, x the sample. Definitions only.
 use Prim.Native.Nat.{ℕ}
 use mathlib.Core.List.{List, [], _∷_}
 use lib.Ieee.{Float}
@@ -55,7 +55,7 @@ distortOf sk mode a x = caseOf mode ((numberOf Rectify ⇒ rectified a x) ∷ []
 unfoldable pub drivenOf : ℕ → Float → Float → Float
 drivenOf mode a x = caseOf mode ((numberOf Rectify ⇒ x) ∷ []) (x ⊗ driveOf mode a)
 
--- above(step.abs() - scale * 1e-2)
+-- 1 where two driven samples lie far enough apart to divide by their step, else 0: above(step.abs() - scale * 1e-2)
 unfoldable pub apartOf : Float → Float → Float
 apartOf driven last = do
   step ← driven ⊖ last
@@ -72,7 +72,8 @@ blendOf mode a x last y = do
   linear ← (x ⊕ last) ⊗ ½f
   caseOf mode ((numberOf Rectify ⇒ mulAdd (y ⊖ linear) a linear) ∷ []) y
 
--- `distort_smooth` from the driven input on
+-- `distort_smooth` from the driven input on: the curve's mean from the last driven sample to this one, by its integral, or its value half way.
+-- The state is the last driven sample and the integral there
 unfoldable pub smoothOf : List Float → ℕ → Float → Float → Float → Svf → Filtered
 smoothOf sk mode a driven x state = do
   area ← integralOf sk mode driven
