@@ -7,7 +7,7 @@ use Prim.Native.Nat.{ℕ, _/_, _%_}
 use lib.IntN.{negsuc}
 use lib.ListN.{getD}
 use lib.Ieee.{Float, nan, fin, binary32, toBits}
-use Rattle.floats.specs.F32.{bits, 0f, 1f, 2f, half}
+use Rattle.floats.specs.F32.{bits, 0f, 1f, 2f, ½f}
 use Rattle.floats.specs.Exp2.{exp2Of}
 use Rattle.lanes.specs.Word.{signedOf}
 use Rattle.modes.specs.Mode.{numberOf, OddEven, HardClip, Fold, Am1}
@@ -54,7 +54,7 @@ filtered f = pattern (f .y) ∷ pattern (f .state .ic1) ∷ pattern (f .state .i
 
 -- one stage with one coefficient, 0.5, from state 0, on ones
 abbrev pub halved : View Float
-halved = cascade floats (λ stage. sections (half ∷ []) 1) 1 2 (record { rows = λ r. 1f; cells = λ block cell. 0f })
+halved = cascade floats (λ stage. sections (½f ∷ []) 1) 1 2 (record { rows = λ r. 1f; cells = λ block cell. 0f })
 
 unfoldable pub cases : List Case
 cases =
@@ -63,9 +63,9 @@ cases =
     -- OddEven, amount 0: gains 0.5 and -0.5, the second word half a cycle on
     ∷ record { number = 2; given = firstTwo (oddEven 0f 0x1000_0000); said = 0x3f00_0000 ∷ 0xbf00_0000 ∷ 0x1000_0000 ∷ 0x9000_0000 ∷ 2 ∷ [] }
     -- amount 0.5: gains 1 and 0, count 2
-    ∷ record { number = 3; given = firstTwo (oddEven half 0x1000_0000); said = 0x3f80_0000 ∷ 0 ∷ 0x1000_0000 ∷ 0x9000_0000 ∷ 2 ∷ [] }
+    ∷ record { number = 3; given = firstTwo (oddEven ½f 0x1000_0000); said = 0x3f80_0000 ∷ 0 ∷ 0x1000_0000 ∷ 0x9000_0000 ∷ 2 ∷ [] }
     -- HardClip's integral at 2 is 1.5, at 0.5 is 0.125
-    ∷ record { number = 4; given = hardClipIntegral 2f ∷ hardClipIntegral half ∷ []; said = 0x3fc0_0000 ∷ 0x3e00_0000 ∷ [] }
+    ∷ record { number = 4; given = hardClipIntegral 2f ∷ hardClipIntegral ½f ∷ []; said = 0x3fc0_0000 ∷ 0x3e00_0000 ∷ [] }
     -- Fold's curve at 1, 2, 3 is 1, 0, -1
     ∷ record { number = 5; given = foldCurve 1f ∷ foldCurve 2f ∷ foldCurve (bits 0x4040_0000) ∷ []; said = 0x3f80_0000 ∷ 0 ∷ 0xbf80_0000 ∷ [] }
     -- HardClip smooth, amount 0, state 0 and 0, sample 2: answer 0.75, state 2 and 1.5

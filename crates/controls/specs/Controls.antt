@@ -7,7 +7,7 @@ use mathlib.Core.List.{List}
 use lib.Dec.{ltb, eqb}
 use lib.ListN.{length, getD}
 use lib.Ieee.{Float, nan}
-use Rattle.floats.specs.F32.{_⊕_, _⊖_, _⊗_, _⊘_, bits, 0f, 100f}
+use Rattle.floats.specs.F32.{_⊕_, _⊖_, _⊗_, _⊘_, 0f, 100f, hundredth}
 use Rattle.floats.specs.Steps.{_>>=_, if_then_else_}
 use Rattle.lanes.specs.Lane.{mulAdd}
 use Rattle.lanes.specs.Maths.{clampOf}
@@ -24,7 +24,7 @@ lentOf n lane frames xs = cond (eqb (length xs) 0) none (some (column nan n lane
 unfoldable pub percentOf : Float → Float
 percentOf amount = do
   kept ← clampOf amount 0f 100f
-  kept ⊗ bits 0x3c23_d70a
+  kept ⊗ hundredth
 
 -- `Amounts::get` at a host frame: without modulation nothing is added to the base
 unfoldable pub amountAt : Float → Option (List Float) → ℕ → Float

@@ -5,13 +5,13 @@ use lib.IntN.{pos}
 use lib.ListN.{getD}
 use lib.Ieee as Ieee
 use lib.Ieee.{Float, nan, binary32}
-use Rattle.floats.specs.F32.{_⊕_, _⊖_, _⊗_, bits, 0f, 1f}
+use Rattle.floats.specs.F32.{_⊕_, _⊖_, _⊗_, bits, 0f, 1f, 16f}
 use Rattle.floats.specs.Steps.{_>>=_}
 use Rattle.floats.specs.Sign.{absOf}
 use Rattle.lanes.specs.Lane.{maxOf}
 use Rattle.lanes.specs.Maths.{clampOf}
 
--- CURVE_RESOLUTION as f32
+-- CURVE_RESOLUTION as f32: 1,024
 abbrev pub resolution : Float
 resolution = bits 0x4480_0000
 
@@ -38,6 +38,6 @@ unfoldable pub steepestTo : List Float → ℕ → Float
 steepestTo table zero = 0f
 steepestTo table (suc n) = maxOf (steepestTo table n) (slopeOf table n)
 
--- the fold over all pairs * CURVE_RESOLUTION as f32, then clamp(1.0, MAX_CURVE_STRETCH)
+-- the fold over all pairs * CURVE_RESOLUTION as f32, then clamp(1.0, MAX_CURVE_STRETCH), which is 16
 unfoldable pub steepestOf : List Float → Float
-steepestOf table = clampOf (steepestTo table 1024 ⊗ resolution) 1f (bits 0x4180_0000)
+steepestOf table = clampOf (steepestTo table 1024 ⊗ resolution) 1f 16f

@@ -4,7 +4,7 @@ use mathlib.Core.Path.{_≡_, refl}
 use mathlib.Core.List.{[], _∷_}
 use native.Mathlib.Omega.{arith}
 use lib.ListN.{replicate}
-use Rattle.floats.specs.F32.{0f, half}
+use Rattle.floats.specs.F32.{0f, ½f}
 use Rattle.lanes.specs.Numbers.{rustNumbers}
 use Rattle.limits.specs.Lines.{firstOf}
 use Rattle.limits.specs.Lengths.{spansOf}
@@ -25,7 +25,7 @@ settings =
     record {
       shaper =
           record {
-            slot0 = record { mode = 1; character = half };
+            slot0 = record { mode = 1; character = ½f };
             slot1 = record { mode = 69; character = 0f };
             factor = 4;
             lanes = 2;
@@ -40,12 +40,12 @@ settings =
 lent : Lent
 lent =
     record {
-      controls = controlBuffers (replicate 2 half) (replicate 2 half) (replicate 12 half) [] [] (replicate 12 half);
-      curve = replicate 1025 half;
-      cycle = replicate 2048 half;
+      controls = controlBuffers (replicate 2 ½f) (replicate 2 ½f) (replicate 12 ½f) [] [] (replicate 12 ½f);
+      curve = replicate 1025 ½f;
+      cycle = replicate 2048 ½f;
       words = replicate 48 0;
       steps = replicate 48 1;
-      inner = replicate 2 half;
+      inner = replicate 2 ½f;
     }
 
 before : Buffers

@@ -8,6 +8,7 @@ pub mod Fractions
 pub mod Entries
 pub mod PowerCases
 pub mod PowerReview
+pub mod RootCases
 pub mod RootOnly
 pub mod RootSquares
 mod Below
@@ -18,7 +19,6 @@ mod Floors
 mod Halves
 mod Mixing
 mod NearWhole
-mod RootCases
 mod RootPatterns
 mod Shifts
 mod Signs

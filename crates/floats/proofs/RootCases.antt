@@ -1,4 +1,4 @@
--- `sqrtOf` at a value and at a bit pattern, case by case. Assumes nothing.
+-- `sqrtOf` at a value and at a bit pattern, case by case; of a positive value it is the nearest root by squares (`is-root`). Assumes nothing.
 use mathlib.Core.Path.{_≡_, refl, sym, ap, _∙_, subst}
 use mathlib.Core.Logic.{inl, inr}
 use mathlib.Core.Bool.{Bool, true, false, cond, true≢false}
@@ -13,8 +13,9 @@ use lib.Ieee.Fits.{down-pos}
 use lib.Ieee.Exact.{HasValue}
 use borrow.Author.Tests.{lt-leb, le-leb, eq-eqb, ne-eqb}
 use Rattle.floats.specs.Pattern.{fieldOf, significandOf, exponentOf}
-use Rattle.floats.specs.Sqrt.{sqrtOf, rootUnits}
+use Rattle.floats.specs.Sqrt.{sqrtOf, rootUnits, IsRoot}
 use Rattle.floats.proofs.Patterns.{value, significand-pos, at-ones}
+use Rattle.floats.proofs.RootSquares.{root-squares}
 
 -- ---- by the value: n / 2 ^ 149, with n above 0
 none : (n : ℕ) (e : ℤ) (a b : ℕ) → 0 * a * b ≡ n * down e → 0 < n → ⊥
@@ -30,6 +31,9 @@ of-positive (inf s) n h p = absurd h
 of-positive (fin true m e) n h p = absurd (true≢false (h .0))
 of-positive (fin false zero e) n h p = absurd (none n e (up e) (2 ^ 149) (h .1) p)
 of-positive (fin false (suc m) e) n h p = ap rootUnits (ap (λ (w : ℕ). w / down e) (h .1) ∙ mul-div-cancel n (down-pos e))
+
+pub is-root : (x : Float) (n : ℕ) → 0 < n → HasValue x false n (2 ^ 149) → IsRoot n (sqrtOf x)
+is-root x n p h = let s = root-squares n p in record { q = _; k = _; squares = s .0; is = of-positive x n h p ∙ s .1 }
 
 pub of-negative : (x : Float) (n : ℕ) → HasValue x true n (2 ^ 149) → 0 < n → sqrtOf x ≡ nan
 unfolding sqrtOf

@@ -72,8 +72,8 @@ put-together m j q l h J near =
         ∙ sym (mul-assoc m (2 ^ (23 + j % 2)) (2 ^ ((j + 126) / 2 + (j + 126) / 2)))
 
 -- such a pattern is read as the root
-pub is-root : (n r : ℕ) → 0 < n → 8388608 ≤ r → r < 2139095040 → BySquares (n * 2 ^ 149) (8388608 + r % 8388608) (r / 8388608 - 1) → ofBits binary32 r ≡ rootUnits n
-is-root n r N l h s =
+pub read-root : (n r : ℕ) → 0 < n → 8388608 ≤ r → r < 2139095040 → BySquares (n * 2 ^ 149) (8388608 + r % 8388608) (r / 8388608 - 1) → ofBits binary32 r ≡ rootUnits n
+read-root n r N l h s =
     ap (λ (x : ℕ). ofBits binary32 x) (parts r l)
     ∙ made (r / 8388608 - 1) (8388608 + r % 8388608) (omega arith) (omega arith) (omega arith)
     ∙ sym (root-only n (8388608 + r % 8388608) (r / 8388608 - 1) N s)

@@ -1,6 +1,6 @@
 -- 2 ^ x of an f32, by the table rule of document 01, "Added by design", letter by letter. Definitions only.
 -- N, the floor of x * 65,536, and i, the floor of N / 65,536, can be negative. Natural numbers stand for them here: n = N + 128 * 65,536,
--- which is above 0 for an x from -126 up, and i + 128. j and r are the same for n as for N.
+-- which is above 0 for an x from -126 up, and i + 128. j and r are the same for n as for N. 8388608 is 128 * 65,536.
 use Prim.Native.Nat.{ℕ, _+_, _-_, _*_, _/_, _%_, _^_, _≤_, _<_}
 use mathlib.Core.Bool.{true, false, cond}
 use mathlib.Core.List.{List, [], _∷_}

@@ -12,7 +12,8 @@ pub record NearestRoot (n r : ℕ) : Type 0 where
   pub above : r * r < n + r
   pub under : n ≤ r * r + r
 
--- r is the pattern of the root of n smallest values: its significand and its exponent are what the squares ask. It is finite, and 2 ^ -63 at least
+-- r is the pattern of the root of n smallest values: its significand and its exponent are what the squares ask. It is finite, and 2 ^ -63 at least.
+-- 8388608 is 2 ^ 23, and 2139095040 is +infinity's pattern
 pub record RootPattern (n r : ℕ) : Type 0 where
   pub least : 64 * 8388608 ≤ r
   pub most : r < 2139095040

@@ -1,7 +1,8 @@
 -- The square root of an f32: the f32 nearest the exact root, ties to even, said with whole-number squares. Definitions only.
 -- A positive finite f32 is n / 2 ^ 149, n of the smallest values. Its root, in smallest values again, is the root of sq = n * 2 ^ 149.
--- `BySquares` says by squares alone which q * 2 ^ k is nearest that root. `rootUnits` works it out. proofs/RootSquares.antt shows that what it
--- gives meets `BySquares` (`root-squares`), and proofs/RootOnly.antt that any q and k which meet it are the same f32 (`root-only`).
+-- `BySquares` says by squares alone which q * 2 ^ k is nearest that root, and `IsRoot` that y is that f32; `rootUnits` works it out.
+-- `sqrt` promises both, that its answer is `sqrtOf x` and that it `IsRoot`. proofs/RootCases.antt shows that they agree (`is-root`), and
+-- proofs/RootOnly.antt that any q and k which meet `BySquares` are the same f32 (`root-only`).
 use mathlib.Core.Path.{_≡_}
 use Prim.Native.Nat.{ℕ, zero, suc, _+_, _-_, _*_, _/_, _%_, _^_, _≤_, compare}
 use mathlib.Core.Bool.{true, false, cond}
@@ -20,6 +21,13 @@ pub record BySquares (sq q k : ℕ) : Type 0 where
   pub under : 4 * sq ≤ (2 * q + 1) * (2 * q + 1) * 2 ^ (k + k)
   pub tie-above : (2 * q - 1) * (2 * q - 1) * 2 ^ (k + k) ≡ 4 * sq → q % 2 ≡ 0
   pub tie-under : 4 * sq ≡ (2 * q + 1) * (2 * q + 1) * 2 ^ (k + k) → q % 2 ≡ 0
+
+-- y is the f32 nearest the root of n / 2 ^ 149, by squares alone. `odd 24 false q k 149` is the f32 q * 2 ^ k / 2 ^ 149.
+pub record IsRoot (n : ℕ) (y : Float) : Type 0 where
+  pub q : ℕ
+  pub k : ℕ
+  pub squares : BySquares (n * 2 ^ 149) q k
+  pub is : y ≡ odd 24 false q k 149
 
 -- r, or r + 1 where the square of that is still at most n
 abbrev pub upTo : ℕ → ℕ → ℕ

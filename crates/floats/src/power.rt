@@ -3,11 +3,12 @@ use crate::pattern::exponent;
 use crate::pattern::significand;
 ghost use mathlib.Core.Path.{_≡_};
 ghost use mathlib.Core.Bool.{cond};
-ghost use Prim.Native.Nat.{_+_, _-_, _*_, min, _^_, _≤_, _<_};
+ghost use Prim.Native.Nat.{ℕ, _+_, _-_, _*_, min, _^_, _≤_, _<_};
 ghost use lib.Dec.{leb};
+ghost use lib.ListN.{getD};
 ghost use lib.Ieee.{binary32, ofBits};
 ghost use Rattle.floats.specs.Pattern.{significandOf, exponentOf};
-ghost use Rattle.floats.specs.Exp2.{exp2Of, powAt, entries};
+ghost use Rattle.floats.specs.Exp2.{exp2Of, powAt, entries, Entry};
 ghost use Rattle.floats.specs.Promises.{stepsOf};
 
 // E(0) to E(256). An indexed constant is stored anew in each call, so whoever calls `exp2` often
@@ -272,9 +273,10 @@ pub const POWERS: [u32; 257] = [
     16777216,
 ];
 
-// The table, to keep and to lend. Its contract holds the constant to the definition.
+// The table, to keep and to lend. Its contract holds the constant to the definition, and to the rule.
 pub fn power_table() -> [u32; 257]
     ensures { λ r. ⌜ r ≡ entries ⌝ }
+    ensures rule { λ r. ⌜ ((k : ℕ) → k < 257 → Entry k (getD r k 0)) ⌝ }
 {
     POWERS
 }

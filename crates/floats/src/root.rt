@@ -1,9 +1,10 @@
 // The square root: the f32 nearest the exact root, ties to even.
 ghost use mathlib.Core.Path.{_≡_};
-ghost use Prim.Native.Nat.{_-_, _*_, _^_, _≤_, _<_};
+ghost use Prim.Native.Nat.{ℕ, _-_, _*_, _^_, _≤_, _<_};
 ghost use mathlib.Core.Bool.{false};
 ghost use lib.Ieee.{binary32, ofBits, isNan};
-ghost use Rattle.floats.specs.Sqrt.{sqrtOf, rootUnits};
+ghost use lib.Ieee.Exact.{HasValue};
+ghost use Rattle.floats.specs.Sqrt.{sqrtOf, rootUnits, IsRoot};
 ghost use Rattle.floats.specs.Promises.{NearestRoot, RootPattern};
 
 // The factors f × (f + a) + b and c × f + d - k × f × f, whose product is near the root of f.
@@ -162,9 +163,11 @@ fn small_root_bits(b: u32) -> u32
     root_bits(b << up, 24 - up) - 100663296
 }
 
-// The f32 nearest the root of x, ties to even. The zeros and +infinity are their own roots.
+// The f32 nearest the root of x, ties to even: the definition's, and by squares alone the nearest to
+// the root of a positive x, n / 2^149. The zeros and +infinity are their own roots.
 pub fn sqrt(x: f32) -> f32
     ensures { λ r. ⌜ r ≡ sqrtOf x ⌝ }
+    ensures squares { λ r. ⌜ ((n : ℕ) → 0 < n → HasValue x false n (2 ^ 149) → IsRoot n r) ⌝ }
 {
     if x != x {
         return x;

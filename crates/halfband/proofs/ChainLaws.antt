@@ -8,7 +8,7 @@ use native.Mathlib.Numerals.{add-one}
 use native.Mathlib.Omega.{arith}
 use lib.ListN.{length, getD, set}
 use lib.Ieee.{Float, nan}
-use Rattle.floats.specs.F32.{_⊕_, _⊗_, half}
+use Rattle.floats.specs.F32.{_⊕_, _⊗_, ½f}
 use Rattle.grid.specs.Functions.{upd, upto}
 use Rattle.grid.proofs.FunctionLaws.{upd-same, upd-other, upto-in, upto-out}
 use Rattle.halfband.specs.Halfband.{Kind, Sections, Chain, input, output, step, chain, frame, mixed, after, out}
@@ -50,7 +50,7 @@ module _ (coefs z₀ paths₀ : List Float) where
 -- a frame, once all sections have run
 pub framed : (D : Sections Float) (i : ℕ) (z z' paths : List Float) (early late : Float) → i ≡ D .count
     → Linked (D .coefs) z (late ∷ early ∷ []) i z' paths
-    → Framed D z z' early late ((getD paths 0 nan ⊕ getD paths 1 nan) ⊗ half)
+    → Framed D z z' early late ((getD paths 0 nan ⊕ getD paths 1 nan) ⊗ ½f)
 unfolding frame mixed
 framed D i z z' paths early late e was =
     record { size = was .size; sample = rw (was .held, e); cells = rw (was .cells, e) }

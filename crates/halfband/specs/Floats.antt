@@ -3,7 +3,7 @@ use mathlib.Core.List.{List, [], _∷_}
 use Prim.Native.Nat.{ℕ}
 use lib.ListN.{getD, take, drop}
 use lib.Ieee.{Float, nan}
-use Rattle.floats.specs.F32.{_⊕_, _⊖_, _⊗_, bits, 0f, half}
+use Rattle.floats.specs.F32.{_⊕_, _⊖_, _⊗_, bits, 0f, ½f}
 use Rattle.halfband.specs.declared.design.Design.{Design}
 use Rattle.halfband.specs.declared.design.Designs.{Designs}
 use Rattle.halfband.specs.Halfband.{Kind, Sections}
@@ -15,7 +15,7 @@ floats =
       none = nan;
       load = λ cell. cell;
       section = λ c x y input. (input ⊖ y) ⊗ c ⊕ x;
-      mix = λ p q. (p ⊕ q) ⊗ half;
+      mix = λ p q. (p ⊕ q) ⊗ ½f;
     }
 
 abbrev pub sections : List Float → ℕ → Sections Float
@@ -41,6 +41,9 @@ designsOf coefs count0 count1 count2 =
     record { stages = designAt coefs 0 count0 ∷ designAt coefs 12 count1 ∷ designAt coefs 24 count2 ∷ [] }
 
 -- ---- the card's three designs
+-- the last stage's: 0.034332752, 0.12848179, 0.26047325, 0.40524498, 0.5431863, 0.66346705, 0.7630483, 0.8440243, 0.9112316, 0.9708499;
+-- of the one before it: 0.036116753, 0.13707772, 0.28504226, 0.4614878, 0.65648645, 0.87495035;
+-- of the one before that: 0.035724986, 0.13916272, 0.30249274, 0.5226143, 0.81379634
 
 abbrev cardDesign : ℕ → List Float → Design
 cardDesign count coefs = record { coefs = coefs; count = count }

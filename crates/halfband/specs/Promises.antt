@@ -59,7 +59,7 @@ pub record Stored (b n l k : ℕ) (z st st' : List Float) : Type 0 where
   pub size : length st' ≡ length st
   pub lanes : Each n l (l + 1) (λ _ v. upd v b (upto k (cellsOf z) (v b))) (blocksOf n st) (blocksOf n st')
 
--- the rows of f output frames of a stage are there
+-- the rows of f output frames of a stage are there: 16,384 at most, of 4,096 host frames at factor 8
 pub record Rows (size f n : ℕ) : Type 0 where
   pub few : f ≤ 16384
   pub held : 2 * f * n ≤ size

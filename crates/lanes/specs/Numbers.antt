@@ -3,7 +3,8 @@ use mathlib.Core.List.{[], _∷_}
 use Rattle.floats.specs.F32.{bits}
 use Rattle.lanes.specs.declared.maths.Numbers.{Numbers}
 
--- `SIN` and `ATAN`
+-- `SIN`: 1, -0.16666648, 0.008332899, -0.0001980083, 2.5903703e-6, near those of the sine's series, 1, -1/3!, 1/5!, ..
+-- `ATAN`: the f32s nearest 1, -1/3, 1/5, -1/7, 1/9, -1/11, 1/13, -1/15
 unfoldable pub rustNumbers : Numbers
 rustNumbers =
     record {

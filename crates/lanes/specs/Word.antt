@@ -4,7 +4,7 @@ use mathlib.Core.List.{List}
 use lib.ListN.{getD}
 use lib.Ieee as Ieee
 use lib.Ieee.{Float, nan, binary32}
-use Rattle.floats.specs.F32.{_⊕_, _⊖_, _⊗_, _⊘_, bits, 0f, 1f, half}
+use Rattle.floats.specs.F32.{_⊕_, _⊖_, _⊗_, _⊘_, bits, 0f, 1f, ½f}
 use Rattle.floats.specs.Steps.{_>>=_, if_then_else_}
 use Rattle.floats.specs.Floor.{floorOf}
 use Rattle.floats.specs.Casts.{castWord, asSigned}
@@ -19,9 +19,12 @@ addWords a b = (a + b) % 2 ^ 32
 unfoldable pub pickWord : Float → ℕ → ℕ → ℕ
 pickWord mask a b = addWords a (addWords b (2 ^ 32 - a) * castWord mask % 2 ^ 32)
 
--- 2 ^ 32
+-- 2 ^ 32 and 2 ^ 31
 abbrev pub two32 : Float
 two32 = bits 0x4f80_0000
+
+abbrev pub two31 : Float
+two31 = bits 0x4f00_0000
 
 -- word as i32 as f32 * (1.0 / TWO_32)
 unfoldable pub signedOf : ℕ → Float
@@ -30,12 +33,12 @@ signedOf word = Ieee.ofInt binary32 (asSigned word) ⊗ (1f ⊘ two32)
 -- the test against 2 ^ 31 is the Rust's
 unfoldable pub toWord : Float → ℕ
 toWord x = do
-  down ← floorOf (x ⊕ half)
+  down ← floorOf (x ⊕ ½f)
   wrapped ← x ⊖ down
   scaled ← wrapped ⊗ two32
-  if Ieee.le (bits 0x4f00_0000) scaled then 2 ^ 31 else castWord scaled
+  if Ieee.le two31 scaled then 2 ^ 31 else castWord scaled
 
--- With 1,024 segments, as every call has: the numbers are `segments as f32` and `(segments - 1) as f32`.
+-- With 1,024 segments, as every call has: the numbers are 1,024, `segments as f32`, and 1,023, `(segments - 1) as f32`.
 -- A NaN's index is 0 (`Ieee.toUnsigned`, which is `as usize`)
 unfoldable pub lookupOf : List Float → Float → Float
 lookupOf table x = do

@@ -39,14 +39,14 @@ curveLength = 1025
 abbrev pub cycleLength : ℕ
 cycleLength = 2048
 
--- coefficients of three designs, sine and arctangent numbers: where these come by value, all are there
+-- coefficients of three designs, 12 each, sine and arctangent numbers, 5 and 8: where these come by value, all are there
 abbrev pub coefsLength : ℕ
 coefsLength = 36
 
 abbrev pub numbersLength : ℕ
 numbersLength = 13
 
--- filter pairs, FM carry, `last`, decimator state
+-- filter pairs, two numbers a slot, FM carry, one a slot, `last`, decimator state, 24 cells for each of three stages
 abbrev pub pairsLength : ℕ → ℕ
 pairsLength n = 4 * n
 

@@ -1,11 +1,11 @@
 -- The arms of `map` of phase.rs, and `apply`. `sk` and `ak` are the sine and arctangent numbers, `table` the lent curve,
--- h the crossfade's half width. Definitions only.
+-- `a` the amount, 0 to 1, h the crossfade's half width, in cycles. Definitions only.
 use Prim.Native.Nat.{ℕ, zero, suc, _^_}
 use mathlib.Core.List.{List, [], _∷_}
 use lib.ListN.{getD}
 use lib.Ieee as Ieee
 use lib.Ieee.{Float, nan}
-use Rattle.floats.specs.F32.{_⊕_, _⊖_, _⊗_, _⊘_, bits, 0f, 1f, 2f, 4f, half, quarter, tau}
+use Rattle.floats.specs.F32.{_⊕_, _⊖_, _⊗_, _⊘_, 0f, 1f, 2f, 4f, ½f, ¼f, 1½f, tau}
 use Rattle.floats.specs.Steps.{_>>=_}
 use Rattle.floats.specs.Floor.{floorOf}
 use Rattle.lanes.specs.Lane.{mulAdd, minOf, maxOf}
@@ -30,8 +30,8 @@ syncMap character a h word gain out = do
   whole ← toWord ratio
   before ← addWords after whole
   soft ← clampOf character 0f 1f
-  wide ← maxOf h (half ⊗ soft)
-  h' ← minOf wide half
+  wide ← maxOf h (½f ⊗ soft)
+  h' ← minOf wide ½f
   weight ← smoothstepOf ((t ⊕ h') ⊘ (2f ⊗ h'))
   pushPair out after weight before gain
 
@@ -44,7 +44,7 @@ pinchMap sk ak mode a word gain out = do
   s ← sinCycles sk x
   k ← cosCycles sk x
   angle ← atanOf ak (strength ⊗ s ⊘ mulAdd strength k 1f)
-  offset ← Ieee.neg angle ⊗ (half ⊗ frac1pi)
+  offset ← Ieee.neg angle ⊗ (½f ⊗ frac1pi)
   moved ← toWord offset
   read ← addWords word moved
   pushOf out read gain
@@ -63,7 +63,7 @@ leanMap sk ak mode a word gain out = do
 unfoldable pub pulseWidthMap : Float → Float → ℕ → Float → ReadList → ReadList
 pulseWidthMap a h word gain out = do
   length ← 1f ⊖ a ⊗ pulseMax
-  centre ← length ⊗ half
+  centre ← length ⊗ ½f
   u ← unitOf word
   v ← wrapOf (u ⊖ centre)
   squeezed ← toWord ((centre ⊕ v) ⊘ length)
@@ -73,26 +73,26 @@ pulseWidthMap a h word gain out = do
 -- Mode::Flip
 unfoldable pub flipMap : Float → Float → ℕ → Float → ReadList → ReadList
 flipMap a h word gain out = do
-  halfLength ← a ⊗ half
+  halfLength ← a ⊗ ½f
   u ← unitOf word
   v ← wrapOf (u ⊖ (1f ⊖ halfLength))
   inverted ← smoothBox v halfLength h
   out₁ ← weightedOf out
   pushOf out₁ word (gain ⊗ (1f ⊖ 2f ⊗ inverted))
 
--- Mode::Mirror; the number is 1.5
+-- Mode::Mirror
 unfoldable pub mirrorMap : List Float → List Float → Float → Float → ℕ → Float → ReadList → ReadList
 mirrorMap sk ak a h word gain out = do
   beta ← Ieee.neg a ⊗ leanMax
   u ← unitOf word
-  v ← wrapOf (u ⊖ quarter)
-  forwardAt ← (quarter ⊕ v) ⊗ 2f
-  backwardAt ← bits 0x3fc0_0000 ⊖ v ⊗ 2f
+  v ← wrapOf (u ⊖ ¼f)
+  forwardAt ← (¼f ⊕ v) ⊗ 2f
+  backwardAt ← 1½f ⊖ v ⊗ 2f
   forwardBy ← leanOffset sk ak forwardAt beta
-  forward ← (forwardAt ⊕ forwardBy) ⊗ half
+  forward ← (forwardAt ⊕ forwardBy) ⊗ ½f
   backwardBy ← leanOffset sk ak backwardAt beta
-  backward ← (backwardAt ⊕ backwardBy) ⊗ half
-  weight ← smoothBox v quarter h
+  backward ← (backwardAt ⊕ backwardBy) ⊗ ½f
+  weight ← smoothBox v ¼f h
   forwardRead ← toWord forward
   backwardRead ← toWord backward
   pushPair out forwardRead weight backwardRead gain
@@ -103,9 +103,9 @@ oddEvenMap a word gain out = do
   odd ← minOf (2f ⊗ (1f ⊖ a)) 1f
   even ← minOf (2f ⊗ a) 1f
   out₁ ← weightedOf out
-  out₂ ← pushOf out₁ word (gain ⊗ (odd ⊕ even) ⊗ half)
+  out₂ ← pushOf out₁ word (gain ⊗ (odd ⊕ even) ⊗ ½f)
   read ← addWords word (2 ^ 31)
-  pushOf out₂ read (gain ⊗ (even ⊖ odd) ⊗ half)
+  pushOf out₂ read (gain ⊗ (even ⊖ odd) ⊗ ½f)
 
 -- Mode::RemapDrawn
 unfoldable pub remapDrawnMap : List Float → Float → ℕ → Float → ReadList → ReadList
@@ -120,10 +120,10 @@ remapDrawnMap table a word gain out = do
 unfoldable pub remapMirroredMap : List Float → Float → ℕ → Float → ReadList → ReadList
 remapMirroredMap table a word gain out = do
   u ← unitOf word
-  second ← aboveOf (u ⊖ half)
+  second ← aboveOf (u ⊖ ½f)
   x ← pickOf second (u ⊗ 2f) (2f ⊖ u ⊗ 2f)
   y₀ ← remapOf table a x
-  y ← y₀ ⊗ half
+  y ← y₀ ⊗ ½f
   picked ← pickOf second y (1f ⊖ y)
   read ← toWord picked
   pushOf out read gain
@@ -135,7 +135,7 @@ remapQuadMap table a word gain out = do
   u ← u₀ ⊗ 4f
   part ← floorOf u
   y₀ ← remapOf table a (u ⊖ part)
-  y ← (part ⊕ y₀) ⊗ quarter
+  y ← (part ⊕ y₀) ⊗ ¼f
   read ← toWord y
   pushOf out read gain
 

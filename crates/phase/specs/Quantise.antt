@@ -1,7 +1,7 @@
--- `quantise` of phase.rs, in its steps. Definitions only.
+-- `quantise` of phase.rs, in its steps. `a` is the amount, 0 to 1, h the crossfade's half width, in cycles. Definitions only.
 use Prim.Native.Nat.{ℕ}
 use lib.Ieee.{Float}
-use Rattle.floats.specs.F32.{_⊕_, _⊖_, _⊗_, _⊘_, bits, 0f, 1f, 2f, half}
+use Rattle.floats.specs.F32.{_⊕_, _⊖_, _⊗_, _⊘_, bits, 0f, 1f, 2f, ½f}
 use Rattle.floats.specs.Steps.{_>>=_}
 use Rattle.floats.specs.Floor.{floorOf}
 use Rattle.floats.specs.Sign.{absOf}
@@ -15,24 +15,38 @@ use Rattle.phase.specs.declared.quantise.Steps.{Steps}
 use Rattle.phase.specs.declared.quantise.Line.{Line}
 use Rattle.phase.specs.declared.quantise.Edge.{Edge}
 
--- the last number is 0.499
+-- 0.499: of a step, the most that a crossfade takes either side of an edge
+abbrev pub mostOfStep : Float
+mostOfStep = bits 0x3eff_7cee
+
+-- 1e-4: taken off the count of steps, so that the last step of a whole count is the one that ends there
+abbrev pub nearWhole : Float
+nearWhole = bits 0x38d1_b717
+
+-- f32::MAX
+abbrev pub f32Max : Float
+f32Max = bits 0x7f7f_ffff
+
+-- how many steps a cycle has, how long one is, how far both reads go toward the running phase, and the crossfade's half width
 unfoldable pub stepsOf : Float → Float → Steps
 stepsOf a h = do
   steps ← stepCount a
   step ← 1f ⊘ steps
   toward ← clampOf (h ⊗ 2f ⊗ steps ⊖ 1f) 0f 1f
-  h' ← minOf h (step ⊗ bits 0x3eff_7cee)
+  h' ← minOf h (step ⊗ mostOfStep)
   record { steps = steps; step = step; toward = toward; half = h' }
 
--- 1e-4; f32::MAX
+-- in steps: the last step's start, and k, the line of the grid that is nearest x
 unfoldable pub lineOf : Float → Float → Line
 lineOf steps x = do
-  last ← floorOf (steps ⊖ bits 0x38d1_b717)
-  near ← floorOf (x ⊕ half)
-  kept ← clampOf near 1f (bits 0x7f7f_ffff)
+  last ← floorOf (steps ⊖ nearWhole)
+  near ← floorOf (x ⊕ ½f)
+  kept ← clampOf near 1f f32Max
   k ← minOf kept last
   record { k = k; last = last }
 
+-- the nearer edge, a line of the grid or the cycle's end: the distance from it, the reads to its left and its right, and the running phase
+-- half a step behind, toward which they move
 unfoldable pub edgeOf : Float → Float → ℕ → Edge
 edgeOf steps step word = do
   t ← signedOf word
@@ -48,7 +62,7 @@ edgeOf steps step word = do
   left ← pickOf atEnd ((line .k ⊖ 1f) ⊗ step) (line .last ⊗ step ⊖ 1f)
   right ← pickOf atEnd (line .k ⊗ step) 0f
   picked ← pickOf atEnd u t
-  record { distance = distance; left = left; right = right; target = picked ⊖ step ⊗ half }
+  record { distance = distance; left = left; right = right; target = picked ⊖ step ⊗ ½f }
 
 -- (target - left).mul_add(toward, left), as a word
 unfoldable pub branchOf : Float → Float → Float → ℕ

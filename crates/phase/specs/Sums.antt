@@ -10,6 +10,7 @@ use Rattle.lanes.specs.Word.{addWords}
 use Rattle.reads.specs.declared.lists.ReadList.{ReadList}
 use Rattle.reads.specs.declared.branches.Branches.{Branches}
 use Rattle.reads.specs.Reads.{pushOf, shiftOf, cycleAt}
+use Rattle.reads.specs.Branches.{kindOne, kindBoth}
 use Rattle.phase.specs.declared.map.Slot.{Slot}
 use Rattle.phase.specs.Map.{mapOf, applyOf}
 
@@ -29,14 +30,14 @@ readAt cycle moves offset word = if moves then cycleAt cycle (addWords word offs
 
 -- the second read's product, if there is one, added to `first`
 unfoldable pub productsAfter : List Float → Bool → ℕ → Branches → Float → Float
-productsAfter cycle moves offset b first = if eqb (b .kind) 2 then first ⊕ b .gain1 ⊗ readAt cycle moves offset (b .word1) else first
+productsAfter cycle moves offset b first = if eqb (b .kind) kindBoth then first ⊕ b .gain1 ⊗ readAt cycle moves offset (b .word1) else first
 
 unfoldable pub productsOf : List Float → Bool → ℕ → Branches → Float
 productsOf cycle moves offset b = productsAfter cycle moves offset b (b .gain0 ⊗ readAt cycle moves offset (b .word0))
 
 -- one map's reads: without gain if neither the read that it was given nor its own has one
 unfoldable pub sumOne : List Float → Bool → ℕ → Bool → Branches → Float
-sumOne cycle moves offset plain b = if plain && eqb (b .kind) 0 then readAt cycle moves offset (b .word0) else productsOf cycle moves offset b
+sumOne cycle moves offset plain b = if plain && eqb (b .kind) kindOne then readAt cycle moves offset (b .word0) else productsOf cycle moves offset b
 
 -- two maps' reads
 unfoldable pub sumTwo : List Float → Bool → ℕ → Branches → Branches → Float

@@ -45,15 +45,15 @@ fn edge_step(half: f32, x: f32) -> f32
     smoothstep((x + half) / width)
 }
 
-// A box of half-length `length` centred on 0, repeating every cycle, its edges smoothed `half`
+// A box of half-length `extent` centred on 0, repeating every cycle, its edges smoothed `half`
 // cycles either side, at `v` cycles from its centre.
-pub fn smooth_box(v: f32, length: f32, half: f32) -> f32
-    ensures { λ r. ⌜ r ≡ smoothBox v length half ⌝ }
+pub fn smooth_box(v: f32, extent: f32, half: f32) -> f32
+    ensures { λ r. ⌜ r ≡ smoothBox v extent half ⌝ }
 {
-    let rise = edge_step(half, v + length);
-    let fall = edge_step(half, v - length);
-    let next = edge_step(half, v + length - 1.0);
-    let last = edge_step(half, v - length + 1.0);
+    let rise = edge_step(half, v + extent);
+    let fall = edge_step(half, v - extent);
+    let next = edge_step(half, v + extent - 1.0);
+    let last = edge_step(half, v - extent + 1.0);
     let inside = rise - fall + next + 1.0 - last;
     clamp(inside, 0.0, 1.0)
 }

@@ -6,6 +6,8 @@ use crate::map::map;
 use lanes::Numbers;
 use lanes::add_words;
 use reads::Branches;
+use reads::KIND_BOTH;
+use reads::KIND_ONE;
 use reads::read_cycle;
 ghost use mathlib.Core.Path.{_≡_};
 ghost use Prim.Native.Nat.{_<_, _≤_};
@@ -31,7 +33,7 @@ fn products_after(cycle: &[f32], moves: bool, offset: u32, b: Branches, first: f
     requires { ⌜ 2048 ≤ length (now cycle) ⌝ }
     ensures { λ r. ⌜ r ≡ productsAfter (now (cycle .entry)) moves offset b first ⌝ }
 {
-    if b.kind == 2 {
+    if b.kind == KIND_BOTH {
         return first + b.gain1 * read_at(cycle, moves, offset, b.word1);
     }
     first
@@ -52,7 +54,7 @@ fn sum_one(cycle: &[f32], moves: bool, offset: u32, plain: bool, b: Branches) ->
     requires { ⌜ 2048 ≤ length (now cycle) ⌝ }
     ensures { λ r. ⌜ r ≡ sumOne (now (cycle .entry)) moves offset plain b ⌝ }
 {
-    if plain & (b.kind == 0) {
+    if plain & (b.kind == KIND_ONE) {
         return read_at(cycle, moves, offset, b.word0);
     }
     products(cycle, moves, offset, b)
@@ -128,7 +130,7 @@ pub fn mapped_sum(
         reads.word0,
         reads.gain0,
     );
-    if kind == 2 {
+    if kind == KIND_BOTH {
         let second = map(
             numbers,
             curve,
@@ -141,5 +143,5 @@ pub fn mapped_sum(
         );
         return sum_two(cycle, moves, offset, first, second);
     }
-    sum_one(cycle, moves, offset, kind == 0, first)
+    sum_one(cycle, moves, offset, kind == KIND_ONE, first)
 }

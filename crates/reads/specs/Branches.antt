@@ -9,15 +9,25 @@ use Rattle.reads.specs.declared.lists.ReadList.{ReadList}
 use Rattle.reads.specs.declared.branches.Branches.{Branches}
 use Rattle.reads.specs.Reads.{weightedOf, pushOf, pushPair}
 
+-- the kinds of branches: the first read, with no gain of its own; the first, weighted; both, weighted
+abbrev pub kindOne : ℕ
+kindOne = 0
+
+abbrev pub kindWeighted : ℕ
+kindWeighted = 1
+
+abbrev pub kindBoth : ℕ
+kindBoth = 2
+
 unfoldable pub appended : Branches → ReadList → ReadList
 appended b out = do
-  out₁ ← if eqb (b .kind) 0 then out else weightedOf out
+  out₁ ← if eqb (b .kind) kindOne then out else weightedOf out
   out₂ ← pushOf out₁ (b .word0) (b .gain0)
-  if eqb (b .kind) 2 then pushOf out₂ (b .word1) (b .gain1) else out₂
+  if eqb (b .kind) kindBoth then pushOf out₂ (b .word1) (b .gain1) else out₂
 
 -- a pair's kind, by the weight of its second
 unfoldable pub kindOf : Float → ℕ
-kindOf weight = if anyOf weight then 2 else 1
+kindOf weight = if anyOf weight then kindBoth else kindWeighted
 
 -- appended to any list, the branches do what f does to it
 abbrev pub Makes : Branches → (ReadList → ReadList) → Type 0

@@ -5,7 +5,7 @@ use mathlib.Core.List.{List, [], _∷_}
 use lib.Dec.{ltb, eqb}
 use lib.ListN.{getD, set, replicate}
 use lib.Ieee.{Float, nan}
-use Rattle.floats.specs.F32.{_⊕_, _⊖_, _⊗_, 1f, half}
+use Rattle.floats.specs.F32.{_⊕_, _⊖_, _⊗_, 1f, ½f}
 use Rattle.floats.specs.Steps.{_>>=_, if_then_else_}
 use Rattle.lanes.specs.Lane.{anyOf}
 use Rattle.lanes.specs.Maths.{aboveOf, pickOf}
@@ -36,7 +36,7 @@ pushOf r word gain =
 
 -- the order in a pair: 1 where a, weighted wa, comes first, else 0
 unfoldable pub aFirst : Float → Float
-aFirst wa = aboveOf (wa ⊖ half)
+aFirst wa = aboveOf (wa ⊖ ½f)
 
 -- the heavier first, and the lighter only if it has any weight
 unfoldable pub pushPair : ReadList → ℕ → Float → ℕ → Float → ReadList

@@ -8,12 +8,18 @@ ghost use mathlib.Core.Path.{_≡_};
 ghost use Rattle.reads.specs.Reads.{aFirst};
 ghost use Rattle.reads.specs.Branches.{kindOf, Makes, pushed, pushedWeighted, pushedBoth, pushedPair};
 
+// The kinds of branches: the first read, with no gain of its own; the first, weighted; both, weighted.
+pub const KIND_ONE: u32 = 0;
+
+pub const KIND_WEIGHTED: u32 = 1;
+
+pub const KIND_BOTH: u32 = 2;
+
 pub struct Branches {
     pub word0: u32,
     pub gain0: f32,
     pub word1: u32,
     pub gain1: f32,
-    // 0: the first read, and no gain of its own. 1: the first, weighted. 2: both, weighted.
     pub kind: u32,
 }
 
@@ -28,7 +34,11 @@ fn a_first(wa: f32) -> f32
 fn kind_of(weight: f32) -> u32
     ensures { λ r. ⌜ r ≡ kindOf weight ⌝ }
 {
-    if any(weight) { 2 } else { 1 }
+    if any(weight) {
+        KIND_BOTH
+    } else {
+        KIND_WEIGHTED
+    }
 }
 
 impl Branches {
@@ -41,7 +51,7 @@ impl Branches {
             gain0: gain,
             word1: word,
             gain1: gain,
-            kind: 0,
+            kind: KIND_ONE,
         }
     }
 
@@ -54,7 +64,7 @@ impl Branches {
             gain0: gain,
             word1: word,
             gain1: gain,
-            kind: 1,
+            kind: KIND_WEIGHTED,
         }
     }
 
@@ -67,7 +77,7 @@ impl Branches {
             gain0,
             word1,
             gain1,
-            kind: 2,
+            kind: KIND_BOTH,
         }
     }
 

@@ -4,6 +4,8 @@ pub mod branches;
 pub mod lists;
 
 pub use branches::Branches;
+pub use branches::KIND_BOTH;
+pub use branches::KIND_ONE;
 pub use lists::LaneReads;
 pub use lists::MAX_READS;
 pub use lists::ReadList;

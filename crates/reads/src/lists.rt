@@ -1,5 +1,7 @@
 // Read lists: up to four weighted reads of the cycle.
 use crate::branches::Branches;
+use crate::branches::KIND_BOTH;
+use crate::branches::KIND_ONE;
 use lanes::add_words;
 ghost use mathlib.Core.Path.{_≡_};
 ghost use Prim.Native.Nat.{_≤_};
@@ -107,11 +109,11 @@ impl ReadList {
         ensures { λ r. ⌜ r ≡ appended b self ⌝ }
     {
         let kind = b.kind;
-        if kind == 0 {
+        if kind == KIND_ONE {
             return self.push(b.word0, b.gain0);
         }
         let one = self.weighted().push(b.word0, b.gain0);
-        if kind == 2 {
+        if kind == KIND_BOTH {
             one.push(b.word1, b.gain1)
         } else {
             one

@@ -84,7 +84,8 @@ pub record Hosted (s : Settings) (lane host base0 base1 mod0 mod1 inner : ℕ) :
   pub held1 : Holds (hostLength (s .frames) (s .lanes)) mod1
   pub spans : spanLength (s .frames) (s .lanes) ≤ inner
 
--- a rendered frame of a lane: its cells of words and steps are there
+-- a rendered frame of a lane: its cells of words and steps are there. 4,096 host frames at factor 8 are 32,768 rendered, which are 2,097,152 cells
+-- of 64 lanes
 pub record Framed (s : Settings) (lane host sub source0 source1 curve cycle words steps : ℕ) : Type 0 where
   pub spot : Spot (s .frames) (s .lanes) lane host
   pub held0 : Holds (hostLength (s .frames) (s .lanes)) source0

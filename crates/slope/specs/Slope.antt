@@ -1,9 +1,10 @@
--- `stretch` of phase.rs. Definitions only.
+-- `stretch` of phase.rs: how much faster than its phase a map reads at most. `a` is the amount, 0 to 1, and `curve` the steepest slope of the
+-- lent curve. Definitions only.
 use Prim.Native.Nat.{ℕ}
 use mathlib.Core.Bool.{cond}
 use mathlib.Core.List.{[], _∷_}
 use lib.Ieee.{Float}
-use Rattle.floats.specs.F32.{_⊕_, _⊖_, _⊗_, _⊘_, 0f, 1f, 2f, 4f, half}
+use Rattle.floats.specs.F32.{_⊕_, _⊖_, _⊗_, _⊘_, 0f, 1f, 2f, 4f, ½f}
 use Rattle.floats.specs.Steps.{_>>=_}
 use Rattle.floats.specs.Sign.{absOf}
 use Rattle.floats.specs.Sqrt.{sqrtOf}
@@ -20,7 +21,7 @@ unfoldable pub leanSteepest : Float → Float
 leanSteepest beta = do
   b ← absOf beta
   root ← sqrtOf (b ⊗ b ⊕ 4f)
-  (b ⊗ b ⊕ 2f ⊕ b ⊗ root) ⊗ half
+  (b ⊗ b ⊕ 2f ⊕ b ⊗ root) ⊗ ½f
 
 unfoldable pub pinchSlope : ℕ → Float → Float
 pinchSlope mode a = do

@@ -1,4 +1,4 @@
--- The strengths of phase.rs's maps. Definitions only.
+-- The strengths of phase.rs's maps. `a` is the amount, 0 to 1. Definitions only.
 use Prim.Native.Nat.{ℕ}
 use mathlib.Core.List.{[], _∷_}
 use lib.Ieee as Ieee
@@ -7,7 +7,7 @@ use Rattle.floats.specs.F32.{_⊖_, _⊗_, bits, 1f, 2f}
 use Rattle.modes.specs.Mode.{numberOf, PinchIn, PinchOut, LeanRight, LeanLeft}
 use Rattle.modes.specs.Choice.{Case, _⇒_, caseOf}
 
--- PINCH_MAX, LEAN_MAX, PULSE_MAX
+-- PINCH_MAX, 0.8, LEAN_MAX, 1.8, and PULSE_MAX, 0.95
 abbrev pub pinchMax : Float
 pinchMax = bits 0x3f4c_cccd
 

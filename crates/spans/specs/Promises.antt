@@ -42,7 +42,7 @@ pub record Takes (factor rate frames rows n : ℕ) (l : ControlLengths) (inner s
   pub stretches : rows * n ≤ stretch
   pub adds : rows * n ≤ add
 
--- rendered frames of a range: the sub-blocks that they fall in are rows of a lane's spans
+-- rendered frames of a range: the sub-blocks that they fall in are rows of a lane's spans. 4,096 host frames at factor 8 are 32,768 rendered
 pub record Asks (factor first rows n lane from asked stretch add : ℕ) : Type 0 where
   pub inside : lane < n
   pub few : n ≤ 64

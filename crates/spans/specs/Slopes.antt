@@ -5,7 +5,7 @@ use mathlib.Core.Option.{Option, some, none}
 use mathlib.Core.List.{List}
 use lib.ListN.{getD}
 use lib.Ieee.{Float, nan}
-use Rattle.floats.specs.F32.{_⊕_, _⊖_, _⊗_, _⊘_, bits, 0f, 1f, 100f, half}
+use Rattle.floats.specs.F32.{_⊕_, _⊖_, _⊗_, _⊘_, bits, 0f, 1f, 100f, ½f}
 use Rattle.floats.specs.Steps.{_>>=_, if_then_else_}
 use Rattle.floats.specs.Sign.{absOf}
 use Rattle.lanes.specs.Lane.{minOf, maxOf}
@@ -29,9 +29,16 @@ rowsIn frames s = min subBlock (frames - s * subBlock)
 unfoldable pub widened : Bounds → Float → Bounds
 widened b x = record { low = minOf (b .low) x; high = maxOf (b .high) x }
 
--- from +infinity and -infinity: with modulation the base alone is never the amount
+-- +infinity, from which a minimum starts, and -infinity, from which a maximum does
+abbrev pub plusInfinity : Float
+plusInfinity = bits 0x7f80_0000
+
+abbrev pub minusInfinity : Float
+minusInfinity = bits 0xff80_0000
+
+-- with modulation the base alone is never the amount
 unfoldable pub boundsTo : Float → List Float → ℕ → ℕ → Bounds
-boundsTo base xs from zero = record { low = bits 0x7f80_0000; high = bits 0xff80_0000 }
+boundsTo base xs from zero = record { low = plusInfinity; high = minusInfinity }
 boundsTo base xs from (suc k) = widened (boundsTo base xs from k) (base ⊕ getD xs (from + k) nan)
 
 unfoldable pub boundsOf : Float → Option (List Float) → ℕ → ℕ → Bounds
@@ -75,7 +82,7 @@ fmSlope a x perHertz = a ⊗ a ⊗ a ⊗ a ⊗ fmMaxHz ⊗ x ⊗ perHertz
 
 -- amount * PD_MAX_CYCLES * (step / factor as f32) * 4_294_967_296.0
 unfoldable pub pdSlope : Float → Float → ℕ → Float
-pdSlope a step factor = a ⊗ half ⊗ (step ⊘ whole factor) ⊗ two32
+pdSlope a step factor = a ⊗ ½f ⊗ (step ⊘ whole factor) ⊗ two32
 
 -- += match modulated; AM and Ring move the value and not the read
 abbrev pub addedBy : Float → Swing → ℕ → Float → Float → Fact (Option Modulated) → Float

@@ -1,4 +1,5 @@
--- The phase stage of one lane at one rendered frame: `PhaseRun` of mod.rs, its carry in and out by value. Definitions only.
+-- The phase stage of one lane at one rendered frame: `PhaseRun` of mod.rs, its carry in and out by value. `a` is a slot's amount, 0 to 1,
+-- s its source's value, `increment` the phase's step, in cycles a rendered frame. Definitions only.
 use Prim.Native.Nat.{ℕ, _*_}
 use mathlib.Core.Bool.{Bool, true, false, _||_, _&&_}
 use mathlib.Core.Option.{Option, some, none}
@@ -6,7 +7,7 @@ use mathlib.Core.List.{List}
 use lib.IntN.{pos}
 use lib.Ieee as Ieee
 use lib.Ieee.{Float, binary32}
-use Rattle.floats.specs.F32.{_⊕_, _⊖_, _⊗_, _⊘_, bits, 2f, half}
+use Rattle.floats.specs.F32.{_⊕_, _⊖_, _⊗_, _⊘_, bits, 2f, ½f}
 use Rattle.floats.specs.Steps.{_>>=_, if_then_else_}
 use Rattle.floats.specs.Floor.{floorOf}
 use Rattle.floats.specs.Exp2.{exp2Of}
@@ -51,12 +52,16 @@ saysOwn (refused n) = false
 unfoldable pub isOwn : ℕ → Bool
 isOwn mode = saysOwn (sourceOf mode)
 
+-- 2.0 * LN_2: 1.3862944
+abbrev pub twoLn2 : Float
+twoLn2 = bits 0x3fb1_7218
+
 -- (s.exp2() - (-s).exp2()) / (2.0 * LN_2)
 unfoldable pub fmExponential : Float → Float
 fmExponential s = do
   up ← exp2Of s
   down ← exp2Of (Ieee.neg s)
-  (up ⊖ down) ⊘ bits 0x3fb1_7218
+  (up ⊖ down) ⊘ twoLn2
 
 -- FM_MAX_HZ: 83,750
 abbrev pub fmMaxHz : Float
@@ -74,7 +79,7 @@ fmCycles a scale s = a ⊗ a ⊗ a ⊗ a ⊗ scale ⊗ s
 unfoldable pub carriedOn : Float → Float → Offset
 carriedOn carry cycles = do
   sum ← carry ⊕ cycles
-  down ← floorOf (sum ⊕ half)
+  down ← floorOf (sum ⊕ ½f)
   carried ← sum ⊖ down
   word ← toWord carried
   record { word = word; carry = carried }
@@ -96,7 +101,7 @@ fmOffset linear a s scale increment carry = do
 -- match modulated; PD_MAX_CYCLES is one half
 abbrev pub offsetBy : Float → Float → Float → Float → Float → Fact (Option Modulated) → Offset
 offsetBy a s scale increment carry (given (some (fm kind))) = fmOffset kind a s scale increment carry
-offsetBy a s scale increment carry (given (some phaseDistortion)) = record { word = toWord (a ⊗ half ⊗ s); carry = carry }
+offsetBy a s scale increment carry (given (some phaseDistortion)) = record { word = toWord (a ⊗ ½f ⊗ s); carry = carry }
 offsetBy a s scale increment carry (given (some am)) = record { word = 0; carry = carry }
 offsetBy a s scale increment carry (given (some ring)) = record { word = 0; carry = carry }
 offsetBy a s scale increment carry (given none) = record { word = 0; carry = carry }
@@ -122,7 +127,7 @@ mapSlot sk ak curve slot control h list = if inPhase (slot .mode) then applyOf s
 -- increment * (TRANSITION * 0.5 * factor as f32): half the width of an edge. TRANSITION, 2, is in host samples, the increment is for a
 -- rendered one
 unfoldable pub halfWidth : Float → ℕ → Float
-halfWidth increment factor = increment ⊗ (2f ⊗ half ⊗ whole factor)
+halfWidth increment factor = increment ⊗ (2f ⊗ ½f ⊗ whole factor)
 
 -- `reads_of`: slot 1's map, slot 0's with half width times `inner`, slot 1's offset, slot 0's
 unfoldable pub listOf : List Float → List Float → List Float → Slot → Slot → ℕ → Float → Control → Control → Float → ℕ → Float → Float → Float → Reads

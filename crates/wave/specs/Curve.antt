@@ -1,9 +1,9 @@
--- The arms of `curve` of wave.rs. `sk` are the sine's numbers. Definitions only.
+-- The arms of `curve` of wave.rs, at the driven sample x. `sk` are the sine's numbers. Definitions only.
 use Prim.Native.Nat.{ℕ}
 use mathlib.Core.List.{List, [], _∷_}
 use lib.Ieee as Ieee
 use lib.Ieee.{Float}
-use Rattle.floats.specs.F32.{_⊕_, _⊖_, _⊗_, _⊘_, bits, 0f, 1f, 2f, 4f, half, quarter, tau}
+use Rattle.floats.specs.F32.{_⊕_, _⊖_, _⊗_, _⊘_, bits, 0f, 1f, 2f, 4f, 27f, ½f, ¼f, 1½f, tau}
 use Rattle.floats.specs.Steps.{_>>=_}
 use Rattle.floats.specs.Floor.{floorOf}
 use Rattle.floats.specs.Sign.{absOf}
@@ -13,28 +13,22 @@ use Rattle.lanes.specs.Maths.{signOf, clampOf, sinCycles, tanhOf, expOf}
 use Rattle.modes.specs.Mode.{numberOf, Valve, SoftClip, HardClip, Diode1, Diode2, Fold, SineFold, ZeroSquare, Asymmetric, Rectify, SineShaper, Pedal, Tape, SoftSaturate}
 use Rattle.modes.specs.Choice.{Case, _⇒_, caseOf}
 
--- VALVE_TANH_BIAS, VALVE_BIAS
+-- VALVE_TANH_BIAS, 0.24491866, and VALVE_BIAS, 0.25
 abbrev pub valveTanhBias : Float
 valveTanhBias = bits 0x3e7a_cbf5
 
 abbrev pub valveBias : Float
-valveBias = bits 0x3e80_0000
+valveBias = ¼f
 
 -- 1.0 / (1.0 - VALVE_TANH_BIAS * VALVE_TANH_BIAS)
 abbrev pub valveScale : Float
 valveScale = 1f ⊘ (1f ⊖ valveTanhBias ⊗ valveTanhBias)
 
-abbrev pub 27f : Float
-27f = bits 0x41d8_0000
-
 -- `x` clamped to ±knee
 abbrev pub within : Float → Float → Float
 within knee x = clampOf x (Ieee.neg knee) knee
 
--- 1.5, FRAC_PI_2
-abbrev pub threeHalves : Float
-threeHalves = bits 0x3fc0_0000
-
+-- FRAC_PI_2: 1.5707964
 abbrev pub fracPi2 : Float
 fracPi2 = bits 0x3fc9_0fdb
 
@@ -45,7 +39,7 @@ valveCurve x = do
 
 unfoldable pub softClipCurve : Float → Float
 softClipCurve x = do
-  z ← within threeHalves x
+  z ← within 1½f x
   z ⊖ z ⊗ z ⊗ z ⊗ (4f ⊘ 27f)
 
 unfoldable pub hardClipCurve : Float → Float
@@ -57,7 +51,7 @@ diode1Curve x = do
   positive ← maxOf x 0f
   negative ← minOf x 0f
   p ← expOf (Ieee.neg positive)
-  n ← expOf (negative ⊗ half)
+  n ← expOf (negative ⊗ ½f)
   (1f ⊖ p) ⊖ 2f ⊗ (1f ⊖ n)
 
 -- sign(x) * (one - exp(-x.abs()))
@@ -71,13 +65,13 @@ diode2Curve x = do
 -- one - (4.0 * (t - t.floor()) - 2.0).abs()
 unfoldable pub foldCurve : Float → Float
 foldCurve x = do
-  t ← (x ⊕ 1f) ⊗ quarter
+  t ← (x ⊕ 1f) ⊗ ¼f
   whole ← floorOf t
   a ← absOf (4f ⊗ (t ⊖ whole) ⊖ 2f)
   1f ⊖ a
 
 unfoldable pub sineFoldCurve : List Float → Float → Float
-sineFoldCurve sk x = sinCycles sk (x ⊗ quarter)
+sineFoldCurve sk x = sinCycles sk (x ⊗ ¼f)
 
 unfoldable pub zeroSquareCurve : Float → Float
 zeroSquareCurve x = do
@@ -89,8 +83,8 @@ asymmetricCurve x = do
   positive ← maxOf x 0f
   negative ← minOf x 0f
   p ← tanhOf (positive ⊗ 2f)
-  n ← tanhOf (negative ⊗ half)
-  p ⊗ half ⊕ n ⊗ 2f
+  n ← tanhOf (negative ⊗ ½f)
+  p ⊗ ½f ⊕ n ⊗ 2f
 
 unfoldable pub rectifyCurve : Float → Float
 rectifyCurve x = absOf x

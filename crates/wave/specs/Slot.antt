@@ -1,11 +1,11 @@
--- What a slot does to one sample, `shape_of` of mod.rs for one slot: its setting, and the sample shaped by it. `sk` are the sine's numbers.
--- Definitions only.
+-- What a slot does to one sample, `shape_of` of mod.rs for one slot: its setting, and the sample shaped by it. `sk` are the sine's numbers, `a` is
+-- the slot's amount, 0 to 1, and s its source's value. Definitions only.
 use Prim.Native.Nat.{ℕ}
 use mathlib.Core.Bool.{Bool, true, false, not, _&&_}
 use mathlib.Core.Option.{Option, some, none}
 use mathlib.Core.List.{List, [], _∷_}
 use lib.Ieee.{Float}
-use Rattle.floats.specs.F32.{_⊕_, _⊖_, _⊗_, 1f, half}
+use Rattle.floats.specs.F32.{_⊕_, _⊖_, _⊗_, 1f, ½f}
 use Rattle.floats.specs.Steps.{_>>=_, if_then_else_}
 use Rattle.modes.specs.Mode.{numberOf, LowPass, HighPass}
 use Rattle.modes.specs.Choice.{Case, _⇒_, caseOf}
@@ -72,7 +72,7 @@ wavePower mode a = if isFilter mode then cutoffHarmonic mode a else (if isModula
 
 -- x * (1.0 - a * 0.5 * (1.0 - s))
 unfoldable pub amOf : Float → Float → Float → Float
-amOf a s x = x ⊗ (1f ⊖ a ⊗ half ⊗ (1f ⊖ s))
+amOf a s x = x ⊗ (1f ⊖ a ⊗ ½f ⊗ (1f ⊖ s))
 
 -- x * (1.0 - a + a * s)
 unfoldable pub ringOf : Float → Float → Float → Float

@@ -1,8 +1,8 @@
--- The drive, `distort` and `distort_smooth` of wave.rs. `sk` are the sine's numbers. Definitions only.
+-- The drive, `distort` and `distort_smooth` of wave.rs. `sk` are the sine's numbers, `a` is the amount, 0 to 1, x the sample. Definitions only.
 use Prim.Native.Nat.{ℕ}
 use mathlib.Core.List.{List, [], _∷_}
 use lib.Ieee.{Float}
-use Rattle.floats.specs.F32.{_⊕_, _⊖_, _⊗_, _⊘_, bits, 1f, half}
+use Rattle.floats.specs.F32.{_⊕_, _⊖_, _⊗_, _⊘_, bits, 1f, 18f, 30f, ½f, hundredth}
 use Rattle.floats.specs.Steps.{_>>=_}
 use Rattle.floats.specs.Sign.{absOf}
 use Rattle.floats.specs.Exp2.{exp2Of}
@@ -15,18 +15,22 @@ use Rattle.wave.specs.declared.filters.Filtered.{Filtered}
 use Rattle.wave.specs.Curve.{curveOf}
 use Rattle.wave.specs.Integral.{integralOf}
 
--- FOLD_DRIVE_MAX_DB (18) and DRIVE_MAX_DB (30)
+-- the most decibels of drive: FOLD_DRIVE_MAX_DB, 18, and DRIVE_MAX_DB, 30
 unfoldable pub mostOf : ℕ → Float
 mostOf mode =
     caseOf mode
-    ((numberOf Fold ⇒ bits 0x4190_0000) ∷ (numberOf SineFold ⇒ bits 0x4190_0000) ∷ [])
-    (bits 0x41f0_0000)
+    ((numberOf Fold ⇒ 18f) ∷ (numberOf SineFold ⇒ 18f) ∷ [])
+    30f
+
+-- 6.0206: the decibels of a factor of 2
+abbrev pub octaveDb : Float
+octaveDb = bits 0x40c0_a8c1
 
 -- (a * (most / 6.020_6)).exp2()
 unfoldable pub driveOf : ℕ → Float → Float
 driveOf mode a = do
   most ← mostOf mode
-  exp2Of (a ⊗ (most ⊘ bits 0x40c0_a8c1))
+  exp2Of (a ⊗ (most ⊘ octaveDb))
 
 -- the drive of a slot's setting: Rectify is not driven
 unfoldable pub gainOf : ℕ → Float → Float
@@ -51,7 +55,7 @@ distortOf sk mode a x = caseOf mode ((numberOf Rectify ⇒ rectified a x) ∷ []
 unfoldable pub drivenOf : ℕ → Float → Float → Float
 drivenOf mode a x = caseOf mode ((numberOf Rectify ⇒ x) ∷ []) (x ⊗ driveOf mode a)
 
--- above(step.abs() - scale * 1e-2)
+-- 1 where two driven samples lie far enough apart to divide by their step, else 0: above(step.abs() - scale * 1e-2)
 unfoldable pub apartOf : Float → Float → Float
 apartOf driven last = do
   step ← driven ⊖ last
@@ -60,15 +64,16 @@ apartOf driven last = do
   larger ← maxOf size lastSize
   scale ← maxOf larger 1f
   far ← absOf step
-  aboveOf (far ⊖ scale ⊗ bits 0x3c23_d70a)
+  aboveOf (far ⊖ scale ⊗ hundredth)
 
 -- (y - linear).mul_add(a, linear)
 unfoldable pub blendOf : ℕ → Float → Float → Float → Float → Float
 blendOf mode a x last y = do
-  linear ← (x ⊕ last) ⊗ half
+  linear ← (x ⊕ last) ⊗ ½f
   caseOf mode ((numberOf Rectify ⇒ mulAdd (y ⊖ linear) a linear) ∷ []) y
 
--- `distort_smooth` from the driven input on
+-- `distort_smooth` from the driven input on: the curve's mean from the last driven sample to this one, by its integral, or its value half way.
+-- The state is the last driven sample and the integral there
 unfoldable pub smoothOf : List Float → ℕ → Float → Float → Float → Svf → Filtered
 smoothOf sk mode a driven x state = do
   area ← integralOf sk mode driven
@@ -77,7 +82,7 @@ smoothOf sk mode a driven x state = do
   apart ← apartOf driven last
   divisor ← pickOf apart 1f step
   mean ← (area ⊖ state .ic2) ⊘ divisor
-  midpoint ← curveOf sk mode ((driven ⊕ last) ⊗ half)
+  midpoint ← curveOf sk mode ((driven ⊕ last) ⊗ ½f)
   y ← pickOf apart midpoint mean
   blended ← blendOf mode a x last y
   record { y = blended; state = record { ic1 = driven; ic2 = area } }

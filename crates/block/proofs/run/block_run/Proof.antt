@@ -40,7 +40,7 @@ run-lanes-requires c κs =
     let e = c .before .before .before .before .before .before .before .before in
     let o = start (e .before) in
     let taken = accepted (o .args .b) (o .args .r) (o .args .active) 36 13 (reads o) (writes o) (none e) in
-    (c .before .before .before .before .before .before .before .power-table .ensures, (taken .actives, (taken .limits, (taken .readable, taken .writable))))
+    (c .before .before .before .before .before .before .before .power-table .ensures .0, (taken .actives, (taken .limits, (taken .readable, taken .writable))))
 
 returns-2 : tie.Need-returns-2
 returns-2 c =

@@ -8,7 +8,7 @@ use lib.Pow.{pow-add, pow-pos, pow-mono}
 use lib.Ieee.{binary32, ofBits}
 use Rattle.floats.specs.Promises.{RootPattern}
 use Rattle.floats.specs.Sqrt.{rootUnits, BySquares}
-use Rattle.floats.proofs.RootPatterns.{is-root, lowered}
+use Rattle.floats.proofs.RootPatterns.{read-root, lowered}
 use Rattle.floats.proofs.root.small_root_bits.Statement.{statement}
 use Rattle.floats.proofs.root.small_root_bits.Tie as tie
 
@@ -55,7 +55,7 @@ module _ (b : ℕ) (P : 0 < b) (S : b < 2 ^ 23) where
       let t : BySquares (b * 2 ^ 149) (8388608 + (r - 100663296) % 8388608) ((r - 100663296) / 8388608 - 1) =
       subst (λ (q : ℕ). BySquares (b * 2 ^ 149) (8388608 + q) ((r - 100663296) / 8388608 - 1)) (same r l)
       (lowered (b * 2 ^ 149) (8388608 + r % 8388608) ((r - 100663296) / 8388608 - 1) (subst (λ (k : ℕ). BySquares (b * 2 ^ 149 * 16777216) (8388608 + r % 8388608) k) (fewer r l) s)) in
-      (omega (arith, p .most), is-root b (r - 100663296) P (omega arith) (omega (arith, p .most)) t)
+      (omega (arith, p .most), read-root b (r - 100663296) P (omega arith) (omega (arith, p .most)) t)
     where
       same : (r : ℕ) → 64 * 8388608 ≤ r → r % 8388608 ≡ (r - 100663296) % 8388608
       same r l = omega arith

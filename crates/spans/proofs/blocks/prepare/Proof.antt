@@ -22,7 +22,7 @@ spans-of-requires c κs =
 prepare-lanes-requires : tie.Need-prepare-lanes-requires
 prepare-lanes-requires c κs =
     let p = accepted _ _ _ _ _ _ _ _ (sym (c .before .before .before .before .before .before .before .before .before .prepare-refused .ensures) ∙ c .before .before .before .before .before .before .before .before .if1 .left) in
-    (c .before .before .before .before .before .before .before .power-table .ensures, (rw (c .before .before .before .before .spans-of .ensures) (p .takes), p .lanes))
+    (c .before .before .before .before .before .before .before .power-table .ensures .0, (rw (c .before .before .before .before .spans-of .ensures) (p .takes), p .lanes))
 
 returns-2 : tie.Need-returns-2
 returns-2 c =
