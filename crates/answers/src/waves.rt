@@ -8,6 +8,7 @@ use crate::random::folded;
 use crate::random::next;
 use floats::nearest_i32;
 use floats::nearest_u32;
+use modes::numbers::VALVE;
 use wave::Filtered;
 use wave::Svf;
 ghost use mathlib.Core.Path.{_≡_};
@@ -157,7 +158,7 @@ fn alone(powers: &[u32; 257], mode: u32, c: Case) -> Filtered
 {
     let numbers = lanes::rust_numbers();
     let a = c.percent * 0.01;
-    if mode < 19 {
+    if mode < VALVE {
         let harmonic = wave::cutoff_harmonic(powers, mode, a);
         let k = wave::damping(c.character);
         return wave::filter(numbers, mode, harmonic, c.increment, k, c.x, c.state);

@@ -4,14 +4,13 @@ use native.Mathlib.Nat.{le-of-suc-le-suc, not-suc-le-zero}
 use mathlib.Core.Path.{_≡_, refl, sym}
 use mathlib.Core.List.{List, [], _∷_, map}
 use lib.ListN.{length, getD, List·getD-eq-default}
-use Rattle.modes.specs.Mode.{numberOf}
 use Rattle.modes.specs.Facts.{given, refused}
-use Rattle.modes.specs.Table.{Row, modes, factOf}
+use Rattle.modes.specs.Table.{Row, modes, numbers, factOf}
 use Rattle.modes.proofs.Ranges.{from}
 
 -- each row stands at the number of its mode
-pub numbered : map (λ (r : Row). numberOf (r .mode)) modes ≡ from 0 70
-unfolding modes
+pub numbered : numbers ≡ from 0 70
+unfolding numbers
 numbered = refl
 
 module _ {A : Type 0} (f : Row → A) where

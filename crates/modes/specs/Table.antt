@@ -4,7 +4,7 @@ use mathlib.Core.Bool.{Bool, true, false}
 use mathlib.Core.Option.{Option, some, none}
 use mathlib.Core.List.{List, [], _∷_, map}
 use lib.ListN.{getD}
-use Rattle.modes.specs.Mode.{Mode, Off, Sync, PinchIn, PinchOut, Pinch, PulseWidth, LeanRight, LeanLeft, Lean, Flip, Mirror, RemapDrawn, RemapMirrored, RemapSine, RemapQuad, Quantise, OddEven, LowPass, HighPass, Valve, SoftClip, HardClip, Diode1, Diode2, Fold, SineFold, ZeroSquare, Asymmetric, Rectify, SineShaper, Pedal, Tape, SoftSaturate, Fm1, Fm2, FmNoise, FmSub, FmFilter1, FmFilter2, FmExp1, FmExp2, FmExpNoise, FmExpSub, FmExpFilter1, FmExpFilter2, FmLin1, FmLin2, FmLinNoise, FmLinSub, FmLinFilter1, FmLinFilter2, Pd1, Pd2, PdNoise, PdSub, PdFilter1, PdFilter2, PdSelf, Am1, Am2, AmNoise, AmSub, AmFilter1, AmFilter2, Rm1, Rm2, RmNoise, RmSub, RmFilter1, RmFilter2}
+use Rattle.modes.specs.Mode.{Mode, numberOf, Off, Sync, PinchIn, PinchOut, Pinch, PulseWidth, LeanRight, LeanLeft, Lean, Flip, Mirror, RemapDrawn, RemapMirrored, RemapSine, RemapQuad, Quantise, OddEven, LowPass, HighPass, Valve, SoftClip, HardClip, Diode1, Diode2, Fold, SineFold, ZeroSquare, Asymmetric, Rectify, SineShaper, Pedal, Tape, SoftSaturate, Fm1, Fm2, FmNoise, FmSub, FmFilter1, FmFilter2, FmExp1, FmExp2, FmExpNoise, FmExpSub, FmExpFilter1, FmExpFilter2, FmLin1, FmLin2, FmLinNoise, FmLinSub, FmLinFilter1, FmLinFilter2, Pd1, Pd2, PdNoise, PdSub, PdFilter1, PdFilter2, PdSelf, Am1, Am2, AmNoise, AmSub, AmFilter1, AmFilter2, Rm1, Rm2, RmNoise, RmSub, RmFilter1, RmFilter2}
 use Rattle.modes.specs.Facts.{Source, FmType, Modulated, Stage, osc1, osc2, noise, sub, filter1, filter2, own, thruZero, exponential, linear, fm, phaseDistortion, am, ring, off, phase, wave, Fact, given, refused}
 
 pub record Row : Type 0 where
@@ -93,6 +93,11 @@ modes =
     row RmFilter1 (some filter1) none (some ring) wave true false ∷
     row RmFilter2 (some filter2) none (some ring) wave true false ∷
     []
+
+-- the number of each mode, in the table's order
+unfoldable pub numbers : List ℕ
+unfolding modes
+numbers = map (λ (r : Row). numberOf (r .mode)) modes
 
 -- the fact of the mode with this number; above 69 the refusal, number 1
 abbrev pub factOf : {A : Type 0} → (Row → A) → ℕ → Fact A

@@ -22,6 +22,22 @@ use lanes::signed;
 use lanes::sin_cycles;
 use lanes::smoothstep;
 use lanes::to_word;
+use modes::numbers::FLIP;
+use modes::numbers::LEAN;
+use modes::numbers::LEAN_LEFT;
+use modes::numbers::LEAN_RIGHT;
+use modes::numbers::MIRROR;
+use modes::numbers::ODD_EVEN;
+use modes::numbers::PINCH;
+use modes::numbers::PINCH_IN;
+use modes::numbers::PINCH_OUT;
+use modes::numbers::PULSE_WIDTH;
+use modes::numbers::QUANTISE;
+use modes::numbers::REMAP_DRAWN;
+use modes::numbers::REMAP_MIRRORED;
+use modes::numbers::REMAP_QUAD;
+use modes::numbers::REMAP_SINE;
+use modes::numbers::SYNC;
 use reads::Branches;
 use reads::ReadList;
 use slope::LEAN_MAX;
@@ -191,22 +207,22 @@ pub fn map(
 {
     let mode = slot.mode;
     match mode {
-        1 => sync(power, slot.character, a, half, word, gain),
-        2 => pinch(numbers, mode, a, word, gain),
-        3 => pinch(numbers, mode, a, word, gain),
-        4 => pinch(numbers, mode, a, word, gain),
-        5 => pulse_width(a, half, word, gain),
-        6 => lean(numbers, mode, a, word, gain),
-        7 => lean(numbers, mode, a, word, gain),
-        8 => lean(numbers, mode, a, word, gain),
-        9 => flip(a, half, word, gain),
-        10 => mirror(numbers, a, half, word, gain),
-        11 => remap_drawn(curve, a, word, gain),
-        12 => remap_mirrored(curve, a, word, gain),
-        13 => remap_sine(numbers, a, word, gain),
-        14 => remap_quad(curve, a, word, gain),
-        15 => quantise(power, a, half, word, gain),
-        16 => odd_even(a, word, gain),
+        SYNC => sync(power, slot.character, a, half, word, gain),
+        PINCH_IN => pinch(numbers, mode, a, word, gain),
+        PINCH_OUT => pinch(numbers, mode, a, word, gain),
+        PINCH => pinch(numbers, mode, a, word, gain),
+        PULSE_WIDTH => pulse_width(a, half, word, gain),
+        LEAN_RIGHT => lean(numbers, mode, a, word, gain),
+        LEAN_LEFT => lean(numbers, mode, a, word, gain),
+        LEAN => lean(numbers, mode, a, word, gain),
+        FLIP => flip(a, half, word, gain),
+        MIRROR => mirror(numbers, a, half, word, gain),
+        REMAP_DRAWN => remap_drawn(curve, a, word, gain),
+        REMAP_MIRRORED => remap_mirrored(curve, a, word, gain),
+        REMAP_SINE => remap_sine(numbers, a, word, gain),
+        REMAP_QUAD => remap_quad(curve, a, word, gain),
+        QUANTISE => quantise(power, a, half, word, gain),
+        ODD_EVEN => odd_even(a, word, gain),
         _ => Branches::one(word, gain),
     }
 }

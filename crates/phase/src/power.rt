@@ -1,6 +1,8 @@
 // The power of two in a slot's map: it goes by the mode and the amount alone, so that a render works it
 // out once for many reads.
 use floats::exp2;
+use modes::numbers::QUANTISE;
+use modes::numbers::SYNC;
 ghost use mathlib.Core.Path.{_≡_};
 ghost use Rattle.floats.specs.Exp2.{entries};
 ghost use Rattle.phase.specs.Power.{ratioOf, stepCount, mapPower};
@@ -27,8 +29,8 @@ pub fn map_power(powers: &[u32; 257], mode: u32, a: f32) -> f32
     ensures { λ r. ⌜ r ≡ mapPower mode a ⌝ }
 {
     match mode {
-        1 => ratio_of(powers, a),
-        15 => step_count(powers, a),
+        SYNC => ratio_of(powers, a),
+        QUANTISE => step_count(powers, a),
         _ => 1.0,
     }
 }

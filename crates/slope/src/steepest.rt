@@ -11,6 +11,19 @@ use floats::sqrt;
 use lanes::clamp;
 use limits::Value;
 use limits::mode_bad;
+use modes::numbers::LEAN;
+use modes::numbers::LEAN_LEFT;
+use modes::numbers::LEAN_RIGHT;
+use modes::numbers::MIRROR;
+use modes::numbers::PINCH;
+use modes::numbers::PINCH_IN;
+use modes::numbers::PINCH_OUT;
+use modes::numbers::PULSE_WIDTH;
+use modes::numbers::REMAP_DRAWN;
+use modes::numbers::REMAP_MIRRORED;
+use modes::numbers::REMAP_QUAD;
+use modes::numbers::REMAP_SINE;
+use modes::numbers::SYNC;
 ghost use mathlib.Core.Path.{_≡_};
 ghost use Rattle.floats.specs.Exp2.{entries};
 ghost use Rattle.slope.specs.Slope.{leanSteepest, pinchSlope, slopeOf, stretchOf, stretchAnswer, leanSlope};
@@ -43,19 +56,19 @@ fn slope_of(powers: &[u32; 257], mode: u32, a: f32, curve: f32) -> f32
     ensures { λ r. ⌜ r ≡ slopeOf mode a curve ⌝ }
 {
     match mode {
-        1 => exp2(powers, 4.0 * a),
-        2 => pinch_slope(mode, a),
-        3 => pinch_slope(mode, a),
-        4 => pinch_slope(mode, a),
-        5 => 1.0 / (1.0 - a * PULSE_MAX),
-        6 => lean_slope(mode, a),
-        7 => lean_slope(mode, a),
-        8 => lean_slope(mode, a),
-        10 => lean_steepest(a * LEAN_MAX),
-        11 => 1.0 + a * (curve - 1.0),
-        12 => 1.0 + a * (curve - 1.0),
-        13 => 1.0 + a,
-        14 => 1.0 + a * (curve - 1.0),
+        SYNC => exp2(powers, 4.0 * a),
+        PINCH_IN => pinch_slope(mode, a),
+        PINCH_OUT => pinch_slope(mode, a),
+        PINCH => pinch_slope(mode, a),
+        PULSE_WIDTH => 1.0 / (1.0 - a * PULSE_MAX),
+        LEAN_RIGHT => lean_slope(mode, a),
+        LEAN_LEFT => lean_slope(mode, a),
+        LEAN => lean_slope(mode, a),
+        MIRROR => lean_steepest(a * LEAN_MAX),
+        REMAP_DRAWN => 1.0 + a * (curve - 1.0),
+        REMAP_MIRRORED => 1.0 + a * (curve - 1.0),
+        REMAP_SINE => 1.0 + a,
+        REMAP_QUAD => 1.0 + a * (curve - 1.0),
         _ => 1.0,
     }
 }

@@ -1,4 +1,8 @@
 // How strongly the maps bend the phase: the numbers that a map and its slope share.
+use modes::numbers::LEAN_LEFT;
+use modes::numbers::LEAN_RIGHT;
+use modes::numbers::PINCH_IN;
+use modes::numbers::PINCH_OUT;
 ghost use mathlib.Core.Path.{_≡_};
 ghost use Rattle.slope.specs.Strengths.{pinchStrength, leanStrength};
 
@@ -13,8 +17,8 @@ pub fn pinch_strength(mode: u32, a: f32) -> f32
     ensures { λ r. ⌜ r ≡ pinchStrength mode a ⌝ }
 {
     match mode {
-        2 => a * PINCH_MAX,
-        3 => -a * PINCH_MAX,
+        PINCH_IN => a * PINCH_MAX,
+        PINCH_OUT => -a * PINCH_MAX,
         _ => (a * 2.0 - 1.0) * PINCH_MAX,
     }
 }
@@ -24,8 +28,8 @@ pub fn lean_strength(mode: u32, a: f32) -> f32
     ensures { λ r. ⌜ r ≡ leanStrength mode a ⌝ }
 {
     match mode {
-        6 => -a * LEAN_MAX,
-        7 => a * LEAN_MAX,
+        LEAN_RIGHT => -a * LEAN_MAX,
+        LEAN_LEFT => a * LEAN_MAX,
         _ => (1.0 - a * 2.0) * LEAN_MAX,
     }
 }

@@ -11,6 +11,20 @@ use lanes::min;
 use lanes::sign;
 use lanes::sin_cycles;
 use lanes::tanh;
+use modes::numbers::ASYMMETRIC;
+use modes::numbers::DIODE1;
+use modes::numbers::DIODE2;
+use modes::numbers::FOLD;
+use modes::numbers::HARD_CLIP;
+use modes::numbers::PEDAL;
+use modes::numbers::RECTIFY;
+use modes::numbers::SINE_FOLD;
+use modes::numbers::SINE_SHAPER;
+use modes::numbers::SOFT_CLIP;
+use modes::numbers::SOFT_SATURATE;
+use modes::numbers::TAPE;
+use modes::numbers::VALVE;
+use modes::numbers::ZERO_SQUARE;
 ghost use mathlib.Core.Path.{_≡_};
 ghost use Rattle.floats.specs.Exp2.{entries};
 ghost use Rattle.wave.specs.Curve.{valveCurve, softClipCurve, hardClipCurve, diode1Curve, diode2Curve, foldCurve, sineFoldCurve, zeroSquareCurve, asymmetricCurve, rectifyCurve, sineShaperCurve, pedalCurve, tapeCurve, softSaturateCurve, curveOf};
@@ -137,20 +151,20 @@ pub fn curve(powers: &[u32; 257], numbers: Numbers, mode: u32, x: f32) -> f32
     ensures { λ r. ⌜ r ≡ curveOf (numbers .sin) mode x ⌝ }
 {
     match mode {
-        19 => valve(powers, x),
-        20 => soft_clip(x),
-        21 => hard_clip(x),
-        22 => diode1(powers, x),
-        23 => diode2(powers, x),
-        24 => fold(x),
-        25 => sine_fold(numbers, x),
-        26 => zero_square(x),
-        27 => asymmetric(powers, x),
-        28 => rectify(x),
-        29 => sine_shaper(numbers, x),
-        30 => pedal(x),
-        31 => tape(x),
-        32 => soft_saturate(x),
+        VALVE => valve(powers, x),
+        SOFT_CLIP => soft_clip(x),
+        HARD_CLIP => hard_clip(x),
+        DIODE1 => diode1(powers, x),
+        DIODE2 => diode2(powers, x),
+        FOLD => fold(x),
+        SINE_FOLD => sine_fold(numbers, x),
+        ZERO_SQUARE => zero_square(x),
+        ASYMMETRIC => asymmetric(powers, x),
+        RECTIFY => rectify(x),
+        SINE_SHAPER => sine_shaper(numbers, x),
+        PEDAL => pedal(x),
+        TAPE => tape(x),
+        SOFT_SATURATE => soft_saturate(x),
         _ => x,
     }
 }

@@ -5,6 +5,7 @@ use lanes::Numbers;
 use lanes::clamp;
 use lanes::min;
 use lanes::tan;
+use modes::numbers::LOW_PASS;
 ghost use mathlib.Core.Path.{_≡_};
 ghost use Rattle.floats.specs.Exp2.{entries};
 ghost use Rattle.wave.specs.Filter.{cutoffHarmonic, dampingOf, filterOf};
@@ -35,7 +36,7 @@ pub fn cutoff_harmonic(powers: &[u32; 257], mode: u32, a: f32) -> f32
     ensures { λ r. ⌜ r ≡ cutoffHarmonic mode a ⌝ }
 {
     match mode {
-        17 => exp2(powers, (1.0 - a) * 11.0),
+        LOW_PASS => exp2(powers, (1.0 - a) * 11.0),
         _ => exp2(powers, a * 12.0 + -2.0),
     }
 }
@@ -73,7 +74,7 @@ pub fn filter(
         ic2: 2.0 * v2 - state.ic2,
     };
     match mode {
-        17 => Filtered { y: v2, state: next },
+        LOW_PASS => Filtered { y: v2, state: next },
         _ => Filtered {
             y: x - k * v1 - v2,
             state: next,

@@ -9,6 +9,8 @@ use crate::smoothing::smooth;
 use lanes::Numbers;
 use modes::ModulatedFact;
 use modes::StageFact;
+use modes::numbers::HIGH_PASS;
+use modes::numbers::LOW_PASS;
 ghost use mathlib.Core.Path.{_≡_};
 ghost use Rattle.floats.specs.Exp2.{entries};
 ghost use Rattle.wave.specs.Slot.{inWave, isFilter, isModulated, isLevel, settingOf, wavePower, amOf, ringOf, levelOf, shapeOf};
@@ -37,8 +39,8 @@ fn is_filter(mode: u32) -> bool
     ensures { λ r. ⌜ r ≡ isFilter mode ⌝ }
 {
     match mode {
-        17 => true,
-        18 => true,
+        LOW_PASS => true,
+        HIGH_PASS => true,
         _ => false,
     }
 }

@@ -9,6 +9,9 @@ use lanes::Numbers;
 use lanes::above;
 use lanes::max;
 use lanes::pick;
+use modes::numbers::FOLD;
+use modes::numbers::RECTIFY;
+use modes::numbers::SINE_FOLD;
 ghost use mathlib.Core.Path.{_≡_};
 ghost use Rattle.floats.specs.Exp2.{entries};
 ghost use Rattle.wave.specs.Smooth.{mostOf, driveOf, gainOf, rectified, distortOf, drivenOf, apartOf, blendOf, smoothOf, distortSmooth};
@@ -23,8 +26,8 @@ fn most(mode: u32) -> f32
     ensures { λ r. ⌜ r ≡ mostOf mode ⌝ }
 {
     match mode {
-        24 => FOLD_DRIVE_MAX_DB,
-        25 => FOLD_DRIVE_MAX_DB,
+        FOLD => FOLD_DRIVE_MAX_DB,
+        SINE_FOLD => FOLD_DRIVE_MAX_DB,
         _ => DRIVE_MAX_DB,
     }
 }
@@ -43,7 +46,7 @@ pub fn gain(powers: &[u32; 257], mode: u32, a: f32) -> f32
     ensures { λ r. ⌜ r ≡ gainOf mode a ⌝ }
 {
     match mode {
-        28 => 1.0,
+        RECTIFY => 1.0,
         _ => drive(powers, mode, a),
     }
 }
@@ -61,7 +64,7 @@ pub fn distort(powers: &[u32; 257], numbers: Numbers, mode: u32, a: f32, x: f32)
     ensures { λ r. ⌜ r ≡ distortOf (numbers .sin) mode a x ⌝ }
 {
     match mode {
-        28 => blend_rectified(a, x),
+        RECTIFY => blend_rectified(a, x),
         _ => curve(powers, numbers, mode, x * drive(powers, mode, a)),
     }
 }
@@ -71,7 +74,7 @@ fn driven_by(powers: &[u32; 257], mode: u32, a: f32, x: f32) -> f32
     ensures { λ r. ⌜ r ≡ drivenOf mode a x ⌝ }
 {
     match mode {
-        28 => x,
+        RECTIFY => x,
         _ => x * drive(powers, mode, a),
     }
 }
@@ -92,7 +95,7 @@ fn blend(mode: u32, a: f32, x: f32, last: f32, y: f32) -> f32
 {
     let linear = (x + last) * 0.5;
     match mode {
-        28 => (y - linear) * a + linear,
+        RECTIFY => (y - linear) * a + linear,
         _ => y,
     }
 }
