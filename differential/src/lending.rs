@@ -129,31 +129,40 @@ pub enum Floats {
     /// Tame, but one of some hundred.
     Mixed,
     Wild,
+    /// Any pattern.
+    Any,
     /// NaN, but one of eight.
     Nans,
+    /// NaN.
+    AllNan,
 }
 
 impl Floats {
     pub fn draw(g: &mut Generator) -> Self {
-        match g.draw() >> 29 {
-            0..=2 => Self::Tame,
-            3 | 4 => Self::Mixed,
-            5 | 6 => Self::Wild,
-            _ => Self::Nans,
+        match g.draw() >> 28 {
+            0..=5 => Self::Tame,
+            6..=9 => Self::Mixed,
+            10..=12 => Self::Wild,
+            13 => Self::Any,
+            14 => Self::Nans,
+            _ => Self::AllNan,
         }
     }
 
     pub fn is_wild(self) -> bool {
-        matches!(self, Self::Wild | Self::Nans)
+        !matches!(self, Self::Tame | Self::Mixed)
     }
 
     pub fn cell(self, buffer: Buffer, g: &mut Generator) -> f32 {
         let [how, draw] = [g.draw(), g.draw()];
+        let nan = f32::from_bits(draw | 0x7f80_0001);
         match self {
             Self::Tame => buffer.cell(draw, false),
             Self::Mixed => buffer.cell(draw, how >> 27 == 0),
-            Self::Nans if how >> 29 != 0 => f32::from_bits(draw | 0x7f80_0001),
+            Self::Nans if how >> 29 != 0 => nan,
             Self::Wild | Self::Nans => buffer.cell(draw, true),
+            Self::Any => f32::from_bits(draw),
+            Self::AllNan => nan,
         }
     }
 }
