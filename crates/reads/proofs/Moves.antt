@@ -21,9 +21,9 @@ pub move-none : (offset : ℕ) (words : List ℕ) → words ≡ moveFirst offset
 unfolding moveFirst
 move-none offset words = refl
 
-pub move-more : (offset i : ℕ) (words so : List ℕ) (r : ℕ) → i < length words → so ≡ moveFirst offset i words → r ≡ addWords (getD so i 0) offset
+pub move-more : (offset i : ℕ) (words so : List ℕ) (r : ℕ) → i < length words → r ≡ addWords (getD so i 0) offset → so ≡ moveFirst offset i words
     → set so i r ≡ moveFirst offset (suc i) words
-move-more offset i words so r h e q = rw (q, e) (move-next offset i words h)
+move-more offset i words so r h q e = rw (q, e) (move-next offset i words h)
 
 pub moved-all : (list : ReadList) (offset k : ℕ) (words : List ℕ) → words ≡ moveFirst offset k (list .word) → max (list .count) 1 ≡ k
     → record { word = words; gain = list .gain; count = list .count; weighted = list .weighted } ≡ shiftOf list offset

@@ -11,58 +11,68 @@ use Rattle.render.proofs.PlainLaws.{neither, unshaped, plain-frames}
 use Rattle.render.proofs.frames.render_lane.Statement.{statement}
 use Rattle.render.proofs.frames.render_lane.Tie as tie
 
-abbrev start : tie.After-struct-known4 → tie.Start
-start c = c .before .before .before .before .before .before .before .before .before .before .before .before .before .before .before .before .before .before .before .before .before
-
 abbrev lends : tie.Start → Lent
 lends c =
     let a = c .args in
     lent (now (a .base0)) (now (a .base1)) (now (a .mod0)) (now (a .mod1)) (now (a .source0)) (now (a .source1)) (now (a .curve)) (now (a .cycle)) (now (a .words)) (now (a .steps)) (now (a .inner))
 
+-- `search` finds an earlier place by its type
 mul-read-lane : tie.Need-mul-read-lane
 mul-read-lane c =
-    let a = start c .args in
-    let p = start c .pre .1 .1 .0 in
-    let first : a .r .first ≤ 4096 = omega (arith, p .range, p .frames) in
-    omega (arith, mul-le-mul first (p .factor-most))
+    let s : tie.Start = search in
+    let (_, (_, (limits, _))) = s .pre in
+    let first : s .args .r .first ≤ 4096 = omega (arith, limits .range, limits .frames) in
+    omega (arith, mul-le-mul first (limits .factor-most))
 
 mul-read-lane-2 : tie.Need-mul-read-lane-2
 mul-read-lane-2 c =
-    let a = start c .args in
-    let p = start c .pre .1 .1 .0 in
-    let count : a .r .count ≤ 4096 = omega (arith, p .range, p .frames) in
-    omega (arith, mul-le-mul count (p .factor-most))
+    let s : tie.Start = search in
+    let (_, (_, (limits, _))) = s .pre in
+    let count : s .args .r .count ≤ 4096 = omega (arith, limits .range, limits .frames) in
+    omega (arith, mul-le-mul count (limits .factor-most))
 
 read-lane-requires : tie.Need-read-lane-requires
 read-lane-requires c κs =
-    let s = start (c .before) in
-    let p = s .pre in
-    unshaped (p .1 .1 .0) (lends s) _ (p .1 .0) (p .1 .1 .1 .1 .0) _ (p .1 .1 .1 .1 .1)
+    let s : tie.Start = search in
+    let (_, (inside, (limits, (_, (readable, rows))))) = s .pre in
+    unshaped limits (lends s) _ inside readable _ rows
 
 returns : tie.Need-returns
 returns c =
-    let s = start (c .before .before .before .before) in
-    let p = s .pre in
-    plain-frames (p .1 .1 .0) (lends s) _ (p .1 .0) (p .1 .1 .1 .1 .0) _ _ _ (p .1 .1 .1 .0)
-    (neither _ _ (sym (c .before .before .before .before .before .before .before .before .before .is-plain .ensures) ∙ c .before .before .before .before .before .before .before .before .if1 .taken)) (search needs) (c .before .before .read-lane .ensures)
+    let s : tie.Start = search in
+    let filled : tie.After-read-lane = search in
+    let plain : tie.Then1 = search in
+    let tested : tie.After-is-plain = search in
+    let (_, (inside, (limits, (cut, (readable, _))))) = s .pre in
+    plain-frames limits (lends s) _ inside readable _ _ _ cut (neither _ _ (sym (tested .is-plain .ensures) ∙ plain .if1 .taken))
+    (search needs) (filled .read-lane .ensures)
 
 -- the lane's cell of a base is there
 mul-still-drive : tie.Need-mul-still-drive
-mul-still-drive c = let p = c .before .before .before .before .before .before .before .before .before .before .before .before .before .before .before .before .before .pre in omega (arith, p .1 .0, p .1 .1 .0 .lanes)
+mul-still-drive c = let s : tie.Start = search in omega (arith, s .pre .1 .0, s .pre .1 .1 .0 .lanes)
 
 shared-slice-read-still-drive : tie.Need-shared-slice-read-still-drive
-shared-slice-read-still-drive c = let p = c .before .before .before .before .before .before .before .before .before .before .before .before .before .before .before .before .before .before .pre in omega (arith, p .1 .0, p .1 .1 .1 .1 .0 .controls .base0)
+shared-slice-read-still-drive c =
+    let s : tie.Start = search in
+    let (_, (inside, (_, (_, (readable, _))))) = s .pre in
+    omega (arith, inside, readable .controls .base0)
 
 mul-still-drive-2 : tie.Need-mul-still-drive-2
-mul-still-drive-2 c = let p = c .before .before .before .before .before .before .before .before .before .before .before .before .before .before .before .before .before .before .before .pre in omega (arith, p .1 .0, p .1 .1 .0 .lanes)
+mul-still-drive-2 c = let s : tie.Start = search in omega (arith, s .pre .1 .0, s .pre .1 .1 .0 .lanes)
 
 shared-slice-read-still-drive-2 : tie.Need-shared-slice-read-still-drive-2
-shared-slice-read-still-drive-2 c = let p = c .before .before .before .before .before .before .before .before .before .before .before .before .before .before .before .before .before .before .before .before .pre in omega (arith, p .1 .0, p .1 .1 .1 .1 .0 .controls .base1)
+shared-slice-read-still-drive-2 c =
+    let s : tie.Start = search in
+    let (_, (inside, (_, (_, (readable, _))))) = s .pre in
+    omega (arith, inside, readable .controls .base1)
 
 render-hosts-requires : tie.Need-render-hosts-requires
 render-hosts-requires c κs =
-    let p = c .before .before .before .before .before .before .before .before .before .before .before .before .before .before .before .before .before .before .before .before .before .before .pre in
-    (p .0, (p .1 .0, (p .1 .1 .0, (p .1 .1 .1 .0, (record { first = c .before .before .before .still-drive .ensures; second = c .before .still-drive2 .ensures }, (p .1 .1 .1 .1 .0, p .1 .1 .1 .1 .1))))))
+    let s : tie.Start = search in
+    let one : tie.After-still-drive = search in
+    let two : tie.After-still-drive2 = search in
+    let (powers, (inside, (limits, (cut, readable-rows)))) = s .pre in
+    (powers, (inside, (limits, (cut, (record { first = one .still-drive .ensures; second = two .still-drive2 .ensures }, readable-rows)))))
 
 pub render-lane-spec : {M : Type 1} → statement M
 render-lane-spec =
@@ -80,10 +90,10 @@ render-lane-spec =
     returns
     mul-still-drive
     shared-slice-read-still-drive
-    (λ c κs. c .before .before .before .before .before .before .before .before .before .before .before .before .before .before .before .before .before .before .pre .0)
+    (λ c κs. let s : tie.Start = search in s .pre .0)
     mul-still-drive-2
     shared-slice-read-still-drive-2
-    (λ c κs. c .before .before .before .before .before .before .before .before .before .before .before .before .before .before .before .before .before .before .before .before .pre .0)
+    (λ c κs. let s : tie.Start = search in s .pre .0)
     render-hosts-requires
     (λ c. search needs)
     (λ c. search needs))

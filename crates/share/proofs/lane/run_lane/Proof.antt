@@ -17,34 +17,61 @@ lends c =
 abbrev had : tie.Start → Buffers
 had c = let a = c .args in buffers (now (a .output)) (now (a .work)) (now (a .pairs)) (now (a .fm)) (now (a .last)) (now (a .dec))
 
+-- ---- `search` finds an earlier place by its type; from the last calls it comes as far back as the tables
+unfoldable start : tie.After-table → tie.Start
+start c = search
+
+-- ---- what the calls ask for
 part-table-end : tie.Need-part-table-end
-part-table-end c = let h = c .before .before .before .before .before .before .before .before .before .before .before .before .before .before .before .before .before .before .before .before .before .before .pre .1 .1 .1 .0 .curve in search needs
+part-table-end c =
+    let s : tie.Start = search in
+    let long = s .pre .1 .1 .1 .0 .curve in
+    search needs
 
 part-wave-end : tie.Need-part-wave-end
-part-wave-end c = let h = c .before .before .before .before .before .before .before .before .before .before .before .before .before .before .before .before .before .before .before .before .before .before .before .pre .1 .1 .1 .0 .cycle in search needs
+part-wave-end c =
+    let s : tie.Start = search in
+    let long = s .pre .1 .1 .1 .0 .cycle in
+    search needs
 
 load-voice-requires : tie.Need-load-voice-requires
-load-voice-requires c κs = let s = c .before .before .before .before .before .before .before .before .before .before .before .before .before .before .before .before .before .before .before .before .before .before .before .before .before .before .before in voice-held {w = had s} (s .pre .1 .1 .0) (s .pre .1 .1 .1 .1) _ (s .pre .1 .0)
+unfolding start
+load-voice-requires c κs =
+    let s = start (search) in
+    let (_, (inside, (limits, (_, writable)))) = s .pre in
+    voice-held {w = had s} limits writable _ inside
 
 render-lane-requires : tie.Need-render-lane-requires
+unfolding start
 render-lane-requires c κs =
-    let s = c .before .before .before .before .before .before .before .before .before .before .before .before .before .before .before .before .before .before .before .before .before .before .before .before .before .before .before .before .before in
-    let p = s .pre in
-    let readable = p .1 .1 .1 .0 in
-    (p .0, (p .1 .0, (p .1 .1 .0, (cut-tables (lends s) readable, (cut-readable (lends s) readable, p .1 .1 .1 .1 .work)))))
+    let s = start (search) in
+    let (powers, (inside, (limits, (readable, writable)))) = s .pre in
+    (powers, (inside, (limits, (cut-tables (lends s) readable, (cut-readable (lends s) readable, writable .work)))))
 
 store-voice-requires : tie.Need-store-voice-requires
-store-voice-requires c κs = let s = c .before .before .before .before .before .before .before .before .before .before .before .before .before .before .before .before .before .before .before .before .before .before .before .before .before .before .before .before .before .before .before .before .before .before .before in voice-held {w = had s} (s .pre .1 .1 .0) (s .pre .1 .1 .1 .1) _ (s .pre .1 .0)
+unfolding start
+store-voice-requires c κs =
+    let s = start (search) in
+    let (_, (inside, (limits, (_, writable)))) = s .pre in
+    voice-held {w = had s} limits writable _ inside
 
 decimate-lane-requires : tie.Need-decimate-lane-requires
+unfolding start
 decimate-lane-requires c κs =
-    let s = c .before .before .before .before .before .before .before .before .before .before .before .before .before .before .before .before .before .before .before .before .before .before .before .before .before .before .before .before .before .before .before .before .before .before .before .before .before .before .before .before .before .before .before .before .before in
-    (stages-taken {w = had s} (s .pre .1 .1 .0) (s .pre .1 .1 .1 .1) _ _ (c .before .before .stages-of .ensures) (c .before .before .before .before .before .before .before .before .before .before .before .before .before .before .before .render-lane .ensures .size), s .pre .1 .0)
+    let staged : tie.After-stages-of = search in
+    let rendered : tie.After-render-lane = search in
+    let s = start (search) in
+    let (_, (inside, (limits, (_, writable)))) = s .pre in
+    (stages-taken {w = had s} limits writable _ _ (staged .stages-of .ensures) (rendered .render-lane .ensures .size), inside)
 
 copy-lane-requires : tie.Need-copy-lane-requires
+unfolding start
 copy-lane-requires c κs =
-    let s = c .before .before .before .before .before .before .before .before .before .before .before .before .before .before .before .before .before .before .before .before .before .before .before .before .before .before .before .before .before .before .before .before .before .before .before .before .before .before .before .before .before .before .before .before .before .before .before .before .before .before .before .before in
-    rows-copied {w = had s} (s .pre .1 .1 .0) (s .pre .1 .1 .1 .1) _ _ (s .pre .1 .0) (c .before .before .before .before .before .before .decimate-lane .kept .1 .1 .1 .1 .1 .0 ∙ c .before .before .before .before .before .before .before .before .before .before .before .before .before .before .before .before .before .before .before .before .before .before .render-lane .ensures .size)
+    let decimated : tie.After-decimate-lane = search in
+    let rendered : tie.After-render-lane = search in
+    let s = start (search) in
+    let (_, (inside, (limits, (_, writable)))) = s .pre in
+    rows-copied {w = had s} limits writable _ _ inside (decimated .decimate-lane .kept .1 .1 .1 .1 .1 .0 ∙ rendered .render-lane .ensures .size)
 
 same-length : tie.Need-same-length
 same-length c = search needs
@@ -65,10 +92,17 @@ same-length-6 : tie.Need-same-length-6
 same-length-6 c = search needs
 
 returns : tie.Need-returns
+unfolding start
 returns c =
-    let s = c .before .before .before .before .before .before .before .before .before .before .before .before .before .before .before .before .before .before .before .before .before .before .before .before .before .before .before .before .before .before .before .before .before .before .before .before .before .before .before .before .before .before .before .before .before .before .before .before .before .before .before .before .before .before .before in
-    shared _ _ (lends s) _ _ _ _ _ _ _ _ _ _ _ _ _ _ _ _ _ (s .pre .1 .0) (c .before .before .before .before .before .before .before .before .before .before .before .before .before .before .before .before .before .before .before .before .before .before .before .before .before .before .before .load-voice .ensures) (c .before .before .before .before .before .before .before .before .before .before .before .before .before .before .before .before .before .before .before .before .before .before .before .before .before .render-lane .ensures) (c .before .before .before .before .before .before .before .before .before .before .before .before .before .before .before .before .before .before .before .store-voice .ensures)
-    (c .before .before .before .before .before .before .before .before .before .before .before .before .stages-of .ensures) (c .before .before .before .before .before .before .before .before .before .decimate-lane .ensures) (c .before .before .copy-lane .ensures)
+    let copied : tie.After-copy-lane = search in
+    let decimated : tie.After-decimate-lane = search in
+    let staged : tie.After-stages-of = search in
+    let stored : tie.After-store-voice = search in
+    let rendered : tie.After-render-lane = search in
+    let loaded : tie.After-load-voice = search in
+    let s = start (search) in
+    shared _ _ (lends s) _ _ _ _ _ _ _ _ _ _ _ _ _ _ _ _ _ (s .pre .1 .0) (loaded .load-voice .ensures) (rendered .render-lane .ensures) (stored .store-voice .ensures)
+    (staged .stages-of .ensures) (decimated .decimate-lane .ensures) (copied .copy-lane .ensures)
     (record {
       output = same-length c;
       work = same-length-2 c;
