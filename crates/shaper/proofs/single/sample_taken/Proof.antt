@@ -1,32 +1,53 @@
 -- `single::sample_taken` meets its contract. Assumes nothing.
-use mathlib.Core.Path.{_≡_, sym, subst}
+use mathlib.Core.Path.{sym, subst}
 use Prim.Native.Nat.{ℕ, _<_}
 use native.Mathlib.Omega.{arith}
 use borrow.Author.Needs.{needs}
 use denote.Ref.{now}
 use lib.ListN.{length}
 use Rattle.grid.proofs.CellLaws.{col-at}
-use Rattle.controls.specs.Controls.{controlBuffers}
-use Rattle.shaper.specs.SampleCall.{sampleFrom}
 use Rattle.shaper.proofs.StoreLaws.{cell-in}
 use Rattle.shaper.proofs.TakenLaws.{sample-taken}
 use Rattle.shaper.proofs.single.sample_taken.Statement.{statement}
 use Rattle.shaper.proofs.single.sample_taken.Tie as tie
 
-at-in : (c : tie.After-place) → c .place .result < length (now (c .before .before .before .before .before .before .before .before .before .before .before .before .before .before .before .args .last))
-at-in c =
-    let s = c .before .before .before .before .before .before .before .before .before .before .before .before .before .before .before in
-    subst (λ (i : ℕ). i < length (now (s .args .last))) (sym (c .place .ensures)) (cell-in (s .pre .1 .1) 0 (omega arith))
+-- `search` finds an earlier place by its type; from the last calls it does not come as far back as the entry
+unfoldable start : tie.After-place → tie.Start
+start c = search
 
-called : (c : tie.After-shape-at)
-    → let a = c .before .before .before .before .before .before .before .before .before .before .before .before .before .before .before .before .before .before .args in
-    c .shape-at .result
-    ≡ sampleFrom (a .s) (a .lane) (a .host) (a .sub) (a .step) (a .x) (controlBuffers (now (a .base0)) (now (a .base1)) (now (a .mod0)) (now (a .mod1)) (now (a .source0)) (now (a .source1))) (now (a .pairs)) (now (a .last))
-called c =
-    rw (← c .before .before .before .before .before .before .load-pair .ensures, ← c .before .before .before .before .load-pair2 .ensures, col-at _ _ _ _ 0, ← c .before .before .before .place .ensures) (c .shape-at .ensures)
+mul-shape-at : tie.Need-mul-shape-at
+unfolding start
+mul-shape-at c =
+    let at : tie.After-place = search in
+    let held = start at .pre .1 .1 in
+    omega (arith, at .place .ensures, held .inside, held .few)
+
+slice-read-shape-at : tie.Need-slice-read-shape-at
+unfolding start
+slice-read-shape-at c =
+    let at : tie.After-place = search in
+    let s = start at in
+    subst (λ (i : ℕ). i < length (now (s .args .last))) (sym (at .place .ensures)) (cell-in (s .pre .1 .1) 0 (omega arith))
+
+store-pairs-requires : tie.Need-store-pairs-requires
+unfolding start
+store-pairs-requires c κs = start (search) .pre .1 .0
+
+store-last-requires : tie.Need-store-last-requires
+unfolding start
+store-last-requires c κs = start (search) .pre .1 .1
 
 returns : tie.Need-returns
-returns c = sample-taken _ _ (called (c .before .before .before .before .before .before .before .before .before .before)) (c .before .before .before .before .before .before .store-pairs .ensures) (c .before .before .store-last .ensures)
+returns c =
+    let kept : tie.After-store-last = search in
+    let stored : tie.After-store-pairs = search in
+    let shaped : tie.After-shape-at = search in
+    let at : tie.After-place = search in
+    let second : tie.After-load-pair2 = search in
+    let first : tie.After-load-pair = search in
+    sample-taken (shaped .shape-at .result) _
+    (rw (← first .load-pair .ensures, ← second .load-pair2 .ensures, col-at _ _ _ _ 0, ← at .place .ensures) (shaped .shape-at .ensures))
+    (stored .store-pairs .ensures) (kept .store-last .ensures)
 
 pub sample-taken-spec : {M : Type 1} → statement M
 sample-taken-spec =
@@ -37,11 +58,11 @@ sample-taken-spec =
     (λ c κs. search needs)
     (λ c κs. search needs)
     (λ c κs. search needs)
-    (λ c. let held = c .before .before .before .before .before .before .before .before .before .before .before .before .before .before .before .before .pre .1 .1 in omega (arith, c .before .place .ensures, held .inside, held .few))
-    (λ c. at-in (c .before .before))
+    mul-shape-at
+    slice-read-shape-at
     (λ c κs. search needs)
-    (λ c κs. c .before .before .before .before .before .before .before .before .before .before .before .before .before .before .before .before .before .before .before .before .before .pre .1 .0)
-    (λ c κs. c .before .before .before .before .before .before .before .before .before .before .before .before .before .before .before .before .before .before .before .before .before .before .before .before .before .pre .1 .1)
+    store-pairs-requires
+    store-last-requires
     (λ c. search needs)
     (λ c. search needs)
     returns)
