@@ -1,6 +1,7 @@
 // Lines 7 and 8 of the table: how long buffers are asked to be. The lines above keep the products small.
 ghost use mathlib.Core.Path.{_≡_};
 ghost use Prim.Native.Nat.{_≤_};
+ghost use lib.ListN.{length};
 ghost use Rattle.limits.specs.Lengths.{spansOf, hostLength, renderedLength, spanLength, pairsLength, carryLength, lastLength, stateLength, shorter, shortLent, shortControls};
 
 // The remap curve.
@@ -26,6 +27,33 @@ pub struct ControlLengths {
     pub mod1: usize,
     pub source0: usize,
     pub source1: usize,
+}
+
+pub fn control_lengths(
+    base0: &[f32],
+    base1: &[f32],
+    mod0: &[f32],
+    mod1: &[f32],
+    source0: &[f32],
+    source1: &[f32],
+) -> ControlLengths
+    ensures { λ r. ⌜ r ≡ (record {
+      base0 = length (now (base0 .entry));
+      base1 = length (now (base1 .entry));
+      mod0 = length (now (mod0 .entry));
+      mod1 = length (now (mod1 .entry));
+      source0 = length (now (source0 .entry));
+      source1 = length (now (source1 .entry));
+    }) ⌝ }
+{
+    ControlLengths {
+        base0: base0.len(),
+        base1: base1.len(),
+        mod0: mod0.len(),
+        mod1: mod1.len(),
+        source0: source0.len(),
+        source1: source1.len(),
+    }
 }
 
 // How many sub-blocks a block has.

@@ -15,6 +15,7 @@ pub use lengths::ControlLengths;
 pub use lengths::NUMBERS_LENGTH;
 pub use lengths::SUB_BLOCK;
 pub use lengths::carry_length;
+pub use lengths::control_lengths;
 pub use lengths::controls_short;
 pub use lengths::host_length;
 pub use lengths::last_length;

@@ -10,8 +10,8 @@ use crate::refusal::sample_refused;
 use crate::settings::Range;
 use crate::settings::Settings;
 use grid::place;
-use limits::ControlLengths;
 use limits::Valued;
+use limits::control_lengths;
 use reads::LaneReads;
 ghost use mathlib.Core.Path.{_≡_};
 ghost use lib.ListN.{length};
@@ -124,14 +124,7 @@ pub fn reads_lane(
         (controlBuffers (now (base0 .entry)) (now (base1 .entry)) (now (mod0 .entry)) (now (mod1 .entry)) (now (source0 .entry)) (now (source1 .entry)))
         (now (curve .entry)) (now (inner .entry)) (now (fm .entry)) (now (fm .exit)) (now (last .entry)) a ⌝ }
 {
-    let lengths = ControlLengths {
-        base0: base0.len(),
-        base1: base1.len(),
-        mod0: mod0.len(),
-        mod1: mod1.len(),
-        source0: source0.len(),
-        source1: source1.len(),
-    };
+    let lengths = control_lengths(base0, base1, mod0, mod1, source0, source1);
     let number = reads_refused(
         s,
         rate,
@@ -259,14 +252,7 @@ pub fn shape_at_lane(
         (controlBuffers (now (base0 .entry)) (now (base1 .entry)) (now (mod0 .entry)) (now (mod1 .entry)) (now (source0 .entry)) (now (source1 .entry)))
         (now (pairs .entry)) (now (last .entry)) (now (pairs .exit)) (now (last .exit)) a ⌝ }
 {
-    let lengths = ControlLengths {
-        base0: base0.len(),
-        base1: base1.len(),
-        mod0: mod0.len(),
-        mod1: mod1.len(),
-        source0: source0.len(),
-        source1: source1.len(),
-    };
+    let lengths = control_lengths(base0, base1, mod0, mod1, source0, source1);
     let number = sample_refused(s, active, lane, r, frame, lengths, pairs.len(), last.len());
     if number != 0 {
         return Valued {

@@ -3,14 +3,18 @@ use mathlib.Core.Path.{_≡_, refl, sym, _∙_, ap}
 use Prim.Native.Nat.{ℕ, _<_}
 use native.Mathlib.Decide.{ℕ-discrete}
 use mathlib.Core.List.{List}
+use lib.ListN.{length, take}
 use lib.Ieee.{Float, nan}
 use borrow.Author.Tests.{ne-eqb}
+use Rattle.grid.specs.Lanes.{Each}
 use Rattle.grid.proofs.CellLaws.{same-columns}
 use Rattle.grid.proofs.EachLaws.{each-unique}
 use Rattle.limits.specs.declared.answers.Answer.{Answer}
-use Rattle.controls.specs.Controls.{ControlBuffers}
+use Rattle.limits.specs.Lengths.{spansOf, curveLength}
+use Rattle.curve.specs.Curve.{steepestOf}
+use Rattle.controls.specs.Controls.{ControlBuffers, controlsOf}
 use Rattle.spans.specs.Refusal.{prepareRefusal}
-use Rattle.spans.specs.Prepared.{Spans, lengthsOf, View, views, Prepared}
+use Rattle.spans.specs.Prepared.{Spans, lengthsOf, View, views, filled, Prepared}
 use Rattle.spans.proofs.RefusalLaws.{accepted}
 
 module _ (mode0 mode1 factor n active f rate : ℕ) (b : ControlBuffers) (curve : List Float) (w : Spans) where
@@ -26,6 +30,23 @@ module _ (mode0 mode1 factor n active f rate : ℕ) (b : ControlBuffers) (curve 
         inner = refl;
         stretch = refl;
         add = refl;
+      }
+
+  -- a call whose lanes are prepared, with the sub-blocks and the curve's steepest segment worked out before
+  pub done : {w' : Spans} {rows : ℕ} {steepest : Float} → prepareRefusal mode0 mode1 factor n active f rate (lengthsOf b curve w) ≡ 0
+      → rows ≡ spansOf f → steepest ≡ steepestOf (take curveLength curve)
+      → Each n 0 active (λ l. filled mode0 mode1 factor f rate steepest (controlsOf n l f b) rows) (views n w) (views n w')
+      → length (w' .inner) ≡ length (w .inner) → length (w' .stretch) ≡ length (w .stretch) → length (w' .add) ≡ length (w .add)
+      → Prepared mode0 mode1 factor n active f rate b curve w w' (record { number = 0; frames = f })
+  done ok counted searched did inner stretch add =
+      record {
+        number = sym ok;
+        frames = refl;
+        refused = λ h. absurd (h refl);
+        lanes = λ e. rw (counted, searched) at did;
+        inner = inner;
+        stretch = stretch;
+        add = add;
       }
 
   -- the promise leaves no cell open: two calls with the same arguments and buffers end alike

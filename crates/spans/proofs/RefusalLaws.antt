@@ -85,6 +85,14 @@ module _ (factor n active lane f first count from asked stretch add : ℕ) where
     pub stretches : shorter (spanLength f n) stretch ≡ false
     pub adds : shorter (spanLength f n) add ≡ false
 
+  pub stretch-table : stretchRefusal factor n active lane f first count from asked stretch add
+      ≡ thenLengths (firstOf (numberLines false (badFactor factor) (badLane n active lane) (badAsked factor f first count from asked) false false))
+      (stretchReadsShort f n stretch add) false
+  unfolding stretchRefusal firstOf
+  stretch-table =
+      whole-table false (badFactor factor) (badLane n active lane) (badAsked factor f first count from asked) false false
+      (stretchReadsShort f n stretch add) false
+
   pub stretch-accepted : stretchRefusal factor n active lane f first count from asked stretch add ≡ 0 → StretchAccepted
   unfolding stretchRefusal firstOf
   stretch-accepted e =

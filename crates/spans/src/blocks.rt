@@ -6,7 +6,7 @@ use curve::steepest_of;
 use grid::place;
 use limits::Answer;
 use limits::CURVE_LENGTH;
-use limits::ControlLengths;
+use limits::control_lengths;
 use limits::spans_of;
 ghost use mathlib.Core.Path.{_≡_};
 ghost use Prim.Native.Nat.{_+_, _<_, _≤_};
@@ -159,14 +159,7 @@ pub fn prepare(
         frames,
         rate,
         PrepareLengths {
-            controls: ControlLengths {
-                base0: base0.len(),
-                base1: base1.len(),
-                mod0: mod0.len(),
-                mod1: mod1.len(),
-                source0: source0.len(),
-                source1: source1.len(),
-            },
+            controls: control_lengths(base0, base1, mod0, mod1, source0, source1),
             curve: curve.len(),
             inner: inner.len(),
             stretch: stretch.len(),

@@ -15,7 +15,7 @@ use limits::span_length;
 ghost use mathlib.Core.Path.{_≡_};
 ghost use mathlib.Core.Bool.{false};
 ghost use Prim.Native.Nat.{_≤_};
-ghost use Rattle.limits.specs.Lines.{firstOf, numberLines, badModes, badFactor, badLanes, badFrames, badRate};
+ghost use Rattle.limits.specs.Lines.{firstOf, numberLines, badModes, badFactor, badLanes, badLane, badFrames, badAsked, badRate};
 ghost use Rattle.spans.specs.Refusal.{prepareReadsShort, prepareWritesShort, prepareRefusal, stretchReadsShort, stretchRefusal};
 
 // The lengths of what `prepare` is lent.
@@ -92,6 +92,30 @@ pub fn prepare_refused(
     0
 }
 
+// Lines 2 to 4.
+fn stretch_numbers(
+    factor: u32,
+    lanes: u32,
+    active: u32,
+    lane: u32,
+    frames: u32,
+    first: u32,
+    count: u32,
+    asked_first: u32,
+    asked: u32,
+) -> u32
+    ensures { λ r. ⌜ r ≡ firstOf (numberLines false (badFactor factor) (badLane lanes active lane) (badAsked factor frames first count «asked_first» asked) false false) ⌝ }
+{
+    first_line(
+        false,
+        factor_bad(factor),
+        lane_bad(lanes, active, lane),
+        asked_bad(factor, frames, first, count, asked_first, asked),
+        false,
+        false,
+    )
+}
+
 // Line 7: `stretch` and `add` are the lengths of the two spans.
 fn stretch_reads_short(frames: u32, lanes: u32, stretch: usize, add: usize) -> bool
     requires { ⌜ (frames ≤ 4096) × (lanes ≤ 64) ⌝ }
@@ -116,14 +140,19 @@ pub fn stretch_refused(
 ) -> u32
     ensures { λ r. ⌜ r ≡ stretchRefusal factor lanes active lane frames first count «asked_first» asked stretch add ⌝ }
 {
-    if factor_bad(factor) {
-        return 2;
-    }
-    if lane_bad(lanes, active, lane) {
-        return 3;
-    }
-    if asked_bad(factor, frames, first, count, asked_first, asked) {
-        return 4;
+    let number = stretch_numbers(
+        factor,
+        lanes,
+        active,
+        lane,
+        frames,
+        first,
+        count,
+        asked_first,
+        asked,
+    );
+    if number != 0 {
+        return number;
     }
     if stretch_reads_short(frames, lanes, stretch, add) {
         return 7;
