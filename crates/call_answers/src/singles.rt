@@ -1,11 +1,10 @@
-// Runs of the calls about one lane: their buffers and then their calls are remade from a seed, the calls
-// one after the other on the same buffers, and a hash takes what each answers and leaves.
+// The calls about one lane: their buffers, drawn after a seed, and a call on them, remade from draws. A hash
+// takes what it answers and leaves.
 use crate::calls::Call;
 use crate::calls::Lent;
 use crate::calls::call_of;
 use crate::calls::lent_of;
 use crate::numbers::Draws;
-use crate::numbers::drawn;
 use crate::parts::part;
 use answers::answer::pattern;
 use answers::cells::Kind;
@@ -83,7 +82,7 @@ fn folded_list(h: u64, a: ReadsAnswer) -> u64 {
 }
 
 // A call, put to the hash.
-fn reads_turn(
+pub fn reads_turn(
     run: ModesRun,
     d: Draws,
     h: u64,
@@ -99,24 +98,17 @@ fn reads_turn(
     folded_cells(folded_list(h, a), fm)
 }
 
-pub fn reads_lane_hash(table: &[f32; 1025], run: ModesRun) -> u64 {
-    let seed = run.seed;
-    let count = run.count % 0x1_0000;
-    let mut controls = [0.0; 1160];
-    let mut inner = [0.0; 12];
-    let mut fm = [0.0; 8];
-    let mut last = [0.0; 4];
-    let mut s = draw_cells(seed, Kind::Controls(584), seed, &mut controls);
-    s = draw_cells(seed, Kind::Stretch, s, &mut inner);
-    s = draw_cells(seed, Kind::Half, s, &mut fm);
-    s = draw_cells(seed, Kind::Sample, s, &mut last);
-    let mut h: u64 = 0xcbf2_9ce4_8422_2325;
-    for _ in 0..count {
-        let d = drawn(s);
-        s = d.x;
-        h = reads_turn(run, d, h, table, &controls, &inner, &mut fm, &last);
-    }
-    h
+pub fn draw_reads(
+    seed: u32,
+    controls: &mut [f32; 1160],
+    inner: &mut [f32; 12],
+    fm: &mut [f32; 8],
+    last: &mut [f32; 4],
+) -> u32 {
+    let s = draw_cells(seed, Kind::Controls(584), seed, controls);
+    let s = draw_cells(seed, Kind::Stretch, s, inner);
+    let s = draw_cells(seed, Kind::Half, s, fm);
+    draw_cells(seed, Kind::Sample, s, last)
 }
 
 // The first `n` cells of `last` are lent.
@@ -160,7 +152,7 @@ pub fn folded_value(h: u64, a: Valued) -> u64 {
     folded(h, pattern(a.value))
 }
 
-fn shape_turn(
+pub fn shape_turn(
     run: ModesRun,
     d: Draws,
     h: u64,
@@ -175,20 +167,13 @@ fn shape_turn(
     folded_cells(h, last)
 }
 
-pub fn shape_lane_hash(run: ModesRun) -> u64 {
-    let seed = run.seed;
-    let count = run.count % 0x1_0000;
-    let mut controls = [0.0; 1160];
-    let mut pairs = [0.0; 16];
-    let mut last = [0.0; 4];
-    let mut s = draw_cells(seed, Kind::Controls(584), seed, &mut controls);
-    s = draw_cells(seed, Kind::Sample, s, &mut pairs);
-    s = draw_cells(seed, Kind::Sample, s, &mut last);
-    let mut h: u64 = 0xcbf2_9ce4_8422_2325;
-    for _ in 0..count {
-        let d = drawn(s);
-        s = d.x;
-        h = shape_turn(run, d, h, &controls, &mut pairs, &mut last);
-    }
-    h
+pub fn draw_shapes(
+    seed: u32,
+    controls: &mut [f32; 1160],
+    pairs: &mut [f32; 16],
+    last: &mut [f32; 4],
+) -> u32 {
+    let s = draw_cells(seed, Kind::Controls(584), seed, controls);
+    let s = draw_cells(seed, Kind::Sample, s, pairs);
+    draw_cells(seed, Kind::Sample, s, last)
 }

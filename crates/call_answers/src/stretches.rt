@@ -1,17 +1,15 @@
-// Runs of the calls about a block's spans, made and hashed as those of singles.rt.
+// The calls about a block's spans, made and hashed as those of singles.rt.
 use crate::calls::Call;
 use crate::calls::Lent;
 use crate::calls::call_of;
 use crate::calls::lent_of;
 use crate::numbers::Draws;
 use crate::numbers::Inputs;
-use crate::numbers::drawn;
 use crate::parts::part;
 use crate::singles::folded_value;
 use answers::cells::Kind;
 use answers::cells::draw_cells;
 use answers::cells::folded_cells;
-use answers::phases::slope_table;
 use answers::random::ModesRun;
 use answers::random::folded;
 use limits::Answer;
@@ -64,7 +62,7 @@ fn folded_spans(h: u64, a: Answer, inner: &[f32], stretch: &[f32], add: &[f32]) 
     folded_cells(h, add)
 }
 
-fn prepare_turn(
+pub fn prepare_turn(
     run: ModesRun,
     d: Draws,
     h: u64,
@@ -80,34 +78,17 @@ fn prepare_turn(
     folded_spans(h, a, inner, stretch, add)
 }
 
-pub fn prepare_hash(run: ModesRun) -> u64 {
-    let seed = run.seed;
-    let count = run.count % 0x1_0000;
-    let curve = slope_table(seed);
-    let mut controls = [0.0; 1160];
-    let mut inner = [0.0; 12];
-    let mut stretch = [0.0; 12];
-    let mut add = [0.0; 12];
-    let mut s = draw_cells(seed, Kind::Controls(584), seed, &mut controls);
-    s = draw_cells(seed, Kind::Stretch, s, &mut inner);
-    s = draw_cells(seed, Kind::Stretch, s, &mut stretch);
-    s = draw_cells(seed, Kind::Slope, s, &mut add);
-    let mut h: u64 = 0xcbf2_9ce4_8422_2325;
-    for _ in 0..count {
-        let d = drawn(s);
-        s = d.x;
-        h = prepare_turn(
-            run,
-            d,
-            h,
-            &curve,
-            &controls,
-            &mut inner,
-            &mut stretch,
-            &mut add,
-        );
-    }
-    h
+pub fn draw_prepares(
+    seed: u32,
+    controls: &mut [f32; 1160],
+    inner: &mut [f32; 12],
+    stretch: &mut [f32; 12],
+    add: &mut [f32; 12],
+) -> u32 {
+    let s = draw_cells(seed, Kind::Controls(584), seed, controls);
+    let s = draw_cells(seed, Kind::Stretch, s, inner);
+    let s = draw_cells(seed, Kind::Stretch, s, stretch);
+    draw_cells(seed, Kind::Slope, s, add)
 }
 
 // The spans of a block that is rendered afterwards, put to a new hash.
@@ -161,18 +142,11 @@ fn stretch(c: Call, l: Lent, stretch: &[f32; 12], add: &[f32; 12]) -> Valued {
     )
 }
 
-pub fn stretch_hash(run: ModesRun) -> u64 {
-    let seed = run.seed;
-    let count = run.count % 0x1_0000;
-    let mut rows = [0.0; 12];
-    let mut add = [0.0; 12];
-    let mut s = draw_cells(seed, Kind::Stretch, seed, &mut rows);
-    s = draw_cells(seed, Kind::Slope, s, &mut add);
-    let mut h: u64 = 0xcbf2_9ce4_8422_2325;
-    for _ in 0..count {
-        let d = drawn(s);
-        s = d.x;
-        h = folded_value(h, stretch(call_of(run, d), lent_of(d), &rows, &add));
-    }
-    h
+pub fn stretch_turn(run: ModesRun, d: Draws, h: u64, rows: &[f32; 12], add: &[f32; 12]) -> u64 {
+    folded_value(h, stretch(call_of(run, d), lent_of(d), rows, add))
+}
+
+pub fn draw_stretches(seed: u32, rows: &mut [f32; 12], add: &mut [f32; 12]) -> u32 {
+    let s = draw_cells(seed, Kind::Stretch, seed, rows);
+    draw_cells(seed, Kind::Slope, s, add)
 }
