@@ -12,25 +12,37 @@ use ruled::api::halfband::{self, Design, Kept};
 use ruled::api::{self, Card, Rows, State};
 use std::hint::black_box;
 
-/// How many samples at least are rendered in a round.
+/// How many samples at least a round renders.
 const SAMPLES: u32 = 8192;
 
-/// The least and the most rounds, and how many samples at most all that are above the least render.
-const ROUNDS: [u32; 2] = [3, 25];
+/// How many rounds there are: the most, but for large blocks as few as render so many samples.
+const LEAST_ROUNDS: u32 = 3;
+const MOST_ROUNDS: u32 = 51;
 const ALL_SAMPLES: u32 = 2_000_000;
 
-/// A block that is run range after range.
+/// How a block is run, range after range.
+#[derive(Clone, Copy, Debug, PartialEq, Eq)]
+pub struct Way {
+    pub lanes: u32,
+    /// The block's host frames.
+    pub frames: u32,
+    /// Those of each call, a divisor of the block's.
+    pub range: u32,
+}
+
+impl Way {
+    /// The blocks of the tables that are not about ranges and lanes.
+    pub const WHOLE: Self = Self { lanes: 8, frames: 128, range: 128 };
+}
+
+/// A block run to be measured.
 #[derive(Clone, Copy, Debug)]
 pub struct Run {
     /// Slot 0's and slot 1's.
     pub modes: [u32; 2],
     pub factor: u32,
     pub is_modulated: bool,
-    pub lanes: u32,
-    /// The block's host frames.
-    pub frames: u32,
-    /// Those of each call, a divisor of the block's.
-    pub range: u32,
+    pub way: Way,
 }
 
 /// The mode of this name.
@@ -39,29 +51,40 @@ pub fn mode(name: &str) -> u32 {
 }
 
 /// So many phase words and steps: each lane goes on by its own step, of a note's size.
-fn words(cells: u32, run: &Run) -> [Vec<u32>; 2] {
-    let step = |at: u32| (20_000_000 + 3_000_000 * (at % run.lanes % 8)) / run.factor;
-    let word = |at: u32| (at / run.lanes).wrapping_mul(step(at));
+fn words(cells: u32, lanes: u32, factor: u32) -> [Vec<u32>; 2] {
+    let step = |at: u32| (20_000_000 + 3_000_000 * (at % lanes % 8)) / factor;
+    let word = |at: u32| (at / lanes).wrapping_mul(step(at));
     [(0..cells).map(word).collect(), (0..cells).map(step).collect()]
 }
 
 impl Run {
-    /// The modes but for an Off in slot 1, the factor, and whether the amounts are modulated.
+    /// Two modes by each factor, without modulation and then with it.
+    pub fn all(modes: [u32; 2], factors: &[u32], way: Way) -> impl Iterator<Item = Self> {
+        let by = move |is_modulated| factors.iter().map(move |&factor| Self { modes, factor, is_modulated, way });
+        [false, true].into_iter().flat_map(by)
+    }
+
+    /// Its factor and whether its amounts are modulated.
+    pub fn kind(&self) -> String {
+        let with = if self.is_modulated { ", modulated" } else { "" };
+        format!("by {}{with}", self.factor)
+    }
+
+    /// Its modes, but for an Off in slot 1, and its kind.
     pub fn name(&self) -> String {
         let modes = match self.modes {
             [mode0, 0] => format!("{:?}", api::mode(mode0)),
             modes => modes.map(|mode| format!("{:?}", api::mode(mode))).join(", "),
         };
-        let with = if self.is_modulated { ", modulated" } else { "" };
-        format!("{modes} by {}{with}", self.factor)
+        format!("{modes} {}", self.kind())
     }
 
     /// The numbers of the whole block's run.
     fn call(&self, counts: [u32; 3]) -> Call {
-        let &Self { modes, factor, lanes, frames, .. } = self;
+        let Way { lanes, frames, .. } = self.way;
         Call {
             characters: [0.25, 0.125],
-            factor,
+            factor: self.factor,
             lanes,
             active: lanes,
             frames,
@@ -69,13 +92,13 @@ impl Run {
             count: frames,
             rate: 48_000,
             counts,
-            ..Call::of(&Draws::default(), modes, false, Most { lanes, frames })
+            ..Call::of(&Draws::default(), self.modes, false, Most { lanes, frames })
         }
     }
 
     /// Its nanoseconds a rendered sample.
     pub fn measured(&self) -> Times {
-        Block::new(self).measured(self.range)
+        Block::new(self).measured(self.way.range)
     }
 }
 
@@ -102,7 +125,7 @@ impl Block {
             Buffer::Base0 | Buffer::Base1 => 37.0 + (i % 8) as f32,
             _ => buffer.cell(g.draw(), false),
         });
-        cells.words = words(length(Buffer::Words) as u32, run);
+        cells.words = words(length(Buffer::Words) as u32, call.lanes, call.factor);
         let is_given = |buffer| match buffer {
             Buffer::Mod0 | Buffer::Mod1 => run.is_modulated,
             Buffer::Source0 => api::source(run.modes[0]) != 0,
@@ -128,8 +151,7 @@ impl Block {
         let samples = call.rendered() * call.lanes;
         let blocks = SAMPLES.div_ceil(samples);
         let firsts = || (0..blocks).flat_map(|_| (0..call.frames).step_by(range as usize));
-        let [least, most] = ROUNDS;
-        let rounds = (ALL_SAMPLES / (blocks * samples)).clamp(least, most);
+        let rounds = (ALL_SAMPLES / (blocks * samples)).clamp(LEAST_ROUNDS, MOST_ROUNDS);
         let times = medians(
             rounds as usize,
             f64::from(blocks * samples),
@@ -140,8 +162,8 @@ impl Block {
             },
             || {
                 for first in firsts() {
-                    let range = first as usize..(first + range) as usize;
-                    black_box(&card).run_kept(black_box(range), &mut kept, &rows, lent.output, lent.work, state.again());
+                    let range = black_box(first as usize..(first + range) as usize);
+                    black_box(&card).run_kept(range, &mut kept, &rows, lent.output, lent.work, state.again());
                 }
             },
         );

@@ -40,6 +40,6 @@ fn measured([factor, lanes]: [u32; 2]) -> (String, Times) {
 
 pub fn print() {
     let all = [2, 4, 8].into_iter().flat_map(|factor| [1, 16, 64].map(|lanes| [factor, lanes]));
-    let title = format!("Decimation with the card's designs, all lanes active, {FRAMES} host frames a call, an output frame:");
-    markdown::times(&title, "factor, lanes", all.map(measured));
+    let title = "Decimation with the card's designs, all lanes active, 256 host frames a call, an output frame:";
+    markdown::times(title, "factor, lanes", all.map(measured));
 }

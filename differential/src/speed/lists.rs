@@ -73,7 +73,7 @@ fn measured([mode1, mode0]: [u32; 2]) -> (String, Times) {
 }
 
 pub fn print() {
-    let title = "Sums of read lists of two slots (mode 1, mode 0), a word; the oracle's opened `apply` copies its lists, which
-flatters the library here and not in the block runs:";
+    let title = "Sums of read lists of two slots (mode 1, mode 0), a word; the oracle's opened `apply` copies its\n\
+        lists, which flatters the library here, but not in the block runs:";
     markdown::times(title, "modes", PAIRS.into_iter().map(measured));
 }

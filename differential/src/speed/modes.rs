@@ -1,24 +1,25 @@
 //! Block runs of each mode alone: in slot 0, with slot 1 off.
 
-use super::blocks::Run;
+use super::blocks::{Run, Way};
 use super::summary::{self, Row, measured};
 
+const FACTORS: [u32; 2] = [1, 8];
+
+fn runs(mode: u32) -> impl Iterator<Item = Run> {
+    Run::all([mode, 0], &FACTORS, Way::WHOLE)
+}
+
 pub fn print(is_full: bool) {
-    let kinds = [1, 8].map(|factor| [false, true].map(|is_modulated| (factor, is_modulated))).concat();
-    let parts: Vec<(String, Vec<Row>)> = kinds
-        .into_iter()
-        .map(|(factor, is_modulated)| {
-            let with = if is_modulated { ", modulated" } else { "" };
-            let runs = (0..70).map(|mode| Run { modes: [mode, 0], factor, is_modulated, lanes: 8, frames: 128, range: 128 });
-            (format!("by {factor}{with}"), measured(runs))
-        })
-        .collect();
-    let all: Vec<Row> = parts.iter().flat_map(|(_, rows)| rows).copied().collect();
-    let lines = parts.iter().map(|(name, rows)| (vec![name.clone()], &rows[..]));
+    let all = measured((0..70).flat_map(runs));
+    let groups = runs(0).map(|kind| {
+        let of_kind = |run: &Run| (run.factor, run.is_modulated) == (kind.factor, kind.is_modulated);
+        let rows: Vec<Row> = all.iter().filter(|(run, _)| of_kind(run)).copied().collect();
+        (vec![kind.kind()], rows)
+    });
     summary::groups(
-        "Block runs of each of the 70 modes alone in slot 0, slot 1 Off, 8 lanes, a block of 128 host frames in one call:",
+        "Block runs of each of the 70 modes alone in slot 0, slot 1 Off, 8 lanes, 128 host frames in one call:",
         &["factor"],
-        lines.chain([(vec!["all".to_string()], &all[..])]),
+        groups.chain([(vec!["all".to_string()], all.clone())]),
     );
     summary::worst("The worst of them, a rendered sample:", &all);
     if is_full {

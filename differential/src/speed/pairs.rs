@@ -1,6 +1,6 @@
 //! Block runs of pairs of modes.
 
-use super::blocks::{Run, mode};
+use super::blocks::{Run, Way, mode};
 use super::markdown::{hundredths, table};
 use super::summary::{self, Row, measured};
 
@@ -20,28 +20,20 @@ pub const PAIRS: [[&str; 2]; 12] = [
     ["OddEven", "Off"],
 ];
 
-/// A name and the ratios of its rows.
-pub fn ratios(name: Vec<String>, rows: &[Row]) -> Vec<String> {
-    name.into_iter().chain(rows.iter().map(|(_, times)| hundredths(times.ratio()))).collect()
-}
-
-/// A pair's rows by each factor, without modulation and then with it.
-fn of_pair(names: [&str; 2]) -> Vec<Row> {
-    let kinds = [false, true].map(|is_modulated| [1, 4, 8].map(|factor| (factor, is_modulated))).concat();
-    let modes = names.map(mode);
-    let run = |(factor, is_modulated)| Run { modes, factor, is_modulated, lanes: 8, frames: 128, range: 128 };
-    measured(kinds.into_iter().map(run))
+/// A line of a table: its names and the ratios of its rows.
+pub fn ratios(names: Vec<String>, rows: &[Row]) -> Vec<String> {
+    names.into_iter().chain(rows.iter().map(|(_, times)| hundredths(times.ratio()))).collect()
 }
 
 pub fn print(is_full: bool) {
-    let rows = PAIRS.map(of_pair);
+    let rows = PAIRS.map(|names| measured(Run::all(names.map(mode), &[1, 4, 8], Way::WHOLE)));
     let all = rows.concat();
     table(
-        "Block runs of pairs of modes, 8 lanes, a block of 128 host frames in one call, the ratio:",
+        "Block runs of pairs of modes, 8 lanes, 128 host frames in one call, the ratio:",
         &["modes (slot 0, slot 1)", "by 1", "by 4", "by 8", "modulated, by 1", "by 4", "by 8"],
         PAIRS.iter().zip(&rows).map(|(names, rows)| ratios(vec![names.join(", ")], rows)),
     );
-    summary::groups("Of these:", &["pairs"], [(vec![PAIRS.len().to_string()], &all[..])]);
+    summary::groups("Of these:", &["pairs"], [(vec![PAIRS.len().to_string()], all.clone())]);
     if is_full {
         summary::each("All of them, a rendered sample:", &all);
     }

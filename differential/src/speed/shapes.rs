@@ -53,7 +53,7 @@ fn measured(mode: u32) -> (String, Times) {
 }
 
 pub fn print() {
-    let title = "A slot of the wave stage over a sequence, the setting made anew for each sample, a sample; the Rust's side of AM and
-Ring is the bare formula, without the run around it:";
+    let title = "A slot of the wave stage over a sequence, the setting made anew for each sample, a sample; the\n\
+        Rust's side of AM and Ring is the bare formula, without the run around it:";
     markdown::times(title, "mode", (17..=32).chain([58, 64]).map(measured));
 }

@@ -34,9 +34,9 @@ fn cells(rows: &[Row]) -> Vec<String> {
 }
 
 /// A line for each group of rows, which is headed by what it has in common.
-pub fn groups<'a>(title: &str, what: &[&str], groups: impl IntoIterator<Item = (Vec<String>, &'a [Row])>) {
+pub fn groups(title: &str, what: &[&str], groups: impl IntoIterator<Item = (Vec<String>, Vec<Row>)>) {
     let heads = [what, &["rows", "geometric mean", "above 1.0", "above 1.5", "worst"]].concat();
-    table(title, &heads, groups.into_iter().map(|(names, rows)| [names, cells(rows)].concat()));
+    table(title, &heads, groups.into_iter().map(|(names, rows)| [names, cells(&rows)].concat()));
 }
 
 /// Every row's times.
