@@ -21,7 +21,7 @@ const MOST_ROUNDS: u32 = 51;
 const ALL_SAMPLES: u32 = 2_000_000;
 
 /// How a block is run, range after range.
-#[derive(Clone, Copy, Debug, PartialEq, Eq)]
+#[derive(Clone, Copy, Debug)]
 pub struct Way {
     pub lanes: u32,
     /// The block's host frames.
