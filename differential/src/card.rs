@@ -221,7 +221,7 @@ pub fn stretch(call: &Call, lent: Slices<'_>) -> Valued {
 }
 
 /// The run of a range of a block.
-pub fn block_run(call: &Call, lent: Slices<'_>) -> Answer {
+pub fn block_run(call: &Call, lent: &mut Slices<'_>) -> Answer {
     let Slices { lent: read, inner, output, work, pairs, fm, last, state, .. } = lent;
     // SAFETY: the pointers and counts are the slices', of which the written ones overlap none.
     unsafe {

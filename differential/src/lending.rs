@@ -9,7 +9,7 @@ use programs::singles::{Buffer, Buffers, Call, Draws, Kind, Lengths, Slices, ref
 use programs::{Generator, pattern};
 
 /// The library's answer as words: its number, its frames and then the list or the value's pattern.
-pub fn ported(kind: Kind, call: &Call, lent: Slices<'_>) -> Vec<u64> {
+pub fn ported(kind: Kind, call: &Call, mut lent: Slices<'_>) -> Vec<u64> {
     let plain = |a: card::Answer| [a.number, a.frames].map(u64::from).to_vec();
     let valued = |a: card::Valued| [a.number, a.frames, pattern(a.value)].map(u64::from).to_vec();
     match kind {
@@ -20,7 +20,7 @@ pub fn ported(kind: Kind, call: &Call, lent: Slices<'_>) -> Vec<u64> {
         Kind::Sample => valued(probe::shape_at_lane(call, lent)),
         Kind::Prepare => plain(card::prepare(call, lent)),
         Kind::Stretch => valued(card::stretch(call, lent)),
-        Kind::Run => plain(card::block_run(call, lent)),
+        Kind::Run => plain(card::block_run(call, &mut lent)),
     }
 }
 

@@ -18,9 +18,13 @@ mod waves;
 
 use tally::{Part, Tally};
 
-const USAGE: &str = "usage: differential quick | speed | speed-blocks
+const USAGE: &str = "usage: differential quick
        differential long MINUTES [SEED]
-       differential leaves | phases | waves | decimate | singles | blocks | largest COUNT [SEED]";
+       differential leaves | phases | waves | decimate | singles | blocks | largest COUNT [SEED]
+       differential speed [leaves | lists | shapes | decimations | pairs | modes | ranges] [rows]
+         all of it, or one table: leaves of lanes.rs, sums of read lists, slots of the wave stage, decimations;
+         block runs of pairs of modes, of each mode alone, and of the pairs by lanes and by the frames of a call;
+         with `rows` every row of the last three";
 
 struct Comparison {
     name: &'static str,
@@ -95,8 +99,7 @@ fn main() {
     let words: Vec<&str> = args.iter().map(String::as_str).collect();
     let compared = match words[..] {
         ["quick"] => Some(quick()),
-        ["speed"] => return speed::table(),
-        ["speed-blocks"] => return speed::blocks::table(),
+        ["speed", ref parts @ ..] if speed::run(parts) => return,
         [name, count] => one(name, count, None),
         [name, count, seed] => seed.parse().ok().and_then(|seed| one(name, count, Some(seed))),
         _ => None,

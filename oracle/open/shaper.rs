@@ -17,7 +17,7 @@ pub use super::lanes::open as lanes;
 pub use super::phase::open as phase;
 pub use super::wave::open as wave;
 
-use halfband::Design;
+use halfband::{Design, Kept};
 
 /// A phase increment as cycles a frame.
 pub const PER_CYCLE: f32 = super::PER_CYCLE;
@@ -408,6 +408,22 @@ impl<'a> Card<'a> {
         state: State<'_>,
         decimator: &mut [f32],
     ) {
+        let mut kept = Kept::new(designs, self.settings.n, decimator);
+        self.run_kept(range, &mut kept, rows, output, work, state);
+        kept.state_to(decimator);
+    }
+
+    /// [`run`](Self::run) with the decimator's state where the crate has it:
+    /// the part of it that a clock should measure.
+    pub fn run_kept(
+        &self,
+        range: Range<usize>,
+        decimator: &mut Kept,
+        rows: &Rows<'_>,
+        output: &mut [f32],
+        work: &mut [f32],
+        state: State<'_>,
+    ) {
         let s = &self.settings;
         let from = range.start * s.factor * s.n;
         let rendered = range.len() * s.factor;
@@ -424,15 +440,7 @@ impl<'a> Card<'a> {
                 wave,
             );
         });
-        halfband::process(
-            designs,
-            s.factor,
-            s.n,
-            s.active,
-            range.len(),
-            work,
-            decimator,
-        );
+        decimator.process(s.factor, s.active, range.len(), work);
         for (k, row) in range.enumerate() {
             output[row * s.n..][..s.active].copy_from_slice(&work[k * s.n..][..s.active]);
         }

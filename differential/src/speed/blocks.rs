@@ -1,68 +1,108 @@
-//! The block run's time as a ratio to the oracle's, on the same block: all lanes active, the card's
-//! designs, floats of the sizes that a render has.
+//! A block run measured against the oracle's on the same block: all lanes active, the card's designs, floats of
+//! the sizes that a render has.
 
+use super::clock::{Times, medians};
 use crate::card;
 use crate::guards::differs;
 use programs::Generator;
 use programs::blocks::{BUFFERS, angles};
 use programs::decimations::numbers;
 use programs::singles::{Buffer, Buffers, Call, Draws, Kind, Lengths, Most};
-use ruled::api::halfband::{self, Design};
+use ruled::api::halfband::{self, Design, Kept};
 use ruled::api::{self, Card, Rows, State};
 use std::hint::black_box;
-use std::time::Instant;
 
-const LANES: u32 = 8;
-const FRAMES: u32 = 128;
-
-/// How often both sides are timed, in turn, and how many samples at least are rendered each time.
-const ROUNDS: usize = 25;
+/// How many samples at least a round renders.
 const SAMPLES: u32 = 8192;
 
-/// Slot 0's mode and slot 1's.
-const PAIRS: [[&str; 2]; 12] = [
-    ["Off", "Off"],
-    ["Sync", "Off"],
-    ["Sync", "Mirror"],
-    ["PinchIn", "Lean"],
-    ["Quantise", "RemapDrawn"],
-    ["LowPass", "HighPass"],
-    ["Valve", "Off"],
-    ["HardClip", "Tape"],
-    ["Fm1", "FmExp2"],
-    ["PdSelf", "SoftSaturate"],
-    ["Am1", "Rm2"],
-    ["OddEven", "Off"],
-];
+/// How many rounds there are: the most, but for large blocks as few as render so many samples.
+const LEAST_ROUNDS: u32 = 3;
+const MOST_ROUNDS: u32 = 51;
+const ALL_SAMPLES: u32 = 2_000_000;
 
-fn mode(name: &str) -> u32 {
+/// How a block is run, range after range.
+#[derive(Clone, Copy, Debug)]
+pub struct Way {
+    pub lanes: u32,
+    /// The block's host frames.
+    pub frames: u32,
+    /// Those of each call, a divisor of the block's.
+    pub range: u32,
+}
+
+impl Way {
+    /// The blocks of the tables that are not about ranges and lanes.
+    pub const WHOLE: Self = Self { lanes: 8, frames: 128, range: 128 };
+}
+
+/// A block run to be measured.
+#[derive(Clone, Copy, Debug)]
+pub struct Run {
+    /// Slot 0's and slot 1's.
+    pub modes: [u32; 2],
+    pub factor: u32,
+    pub is_modulated: bool,
+    pub way: Way,
+}
+
+/// The mode of this name.
+pub fn mode(name: &str) -> u32 {
     (0..70).find(|&mode| format!("{:?}", api::mode(mode)) == name).expect("a mode's name")
 }
 
 /// So many phase words and steps: each lane goes on by its own step, of a note's size.
-fn words(cells: u32, factor: u32) -> [Vec<u32>; 2] {
-    let step = |at: u32| (20_000_000 + 3_000_000 * (at % LANES)) / factor;
-    let word = |at: u32| (at / LANES).wrapping_mul(step(at));
+fn words(cells: u32, lanes: u32, factor: u32) -> [Vec<u32>; 2] {
+    let step = |at: u32| (20_000_000 + 3_000_000 * (at % lanes % 8)) / factor;
+    let word = |at: u32| (at / lanes).wrapping_mul(step(at));
     [(0..cells).map(word).collect(), (0..cells).map(step).collect()]
 }
 
-/// The numbers of a block's run in one call.
-fn whole(modes: [u32; 2], factor: u32) -> Call {
-    let most = Most { lanes: LANES, frames: FRAMES };
-    Call {
-        characters: [0.25, 0.125],
-        factor,
-        lanes: LANES,
-        active: LANES,
-        frames: FRAMES,
-        first: 0,
-        count: FRAMES,
-        rate: 48_000,
-        ..Call::of(&Draws::default(), modes, false, most)
+impl Run {
+    /// Two modes by each factor, without modulation and then with it.
+    pub fn all(modes: [u32; 2], factors: &[u32], way: Way) -> impl Iterator<Item = Self> {
+        let by = move |is_modulated| factors.iter().map(move |&factor| Self { modes, factor, is_modulated, way });
+        [false, true].into_iter().flat_map(by)
+    }
+
+    /// Its factor and whether its amounts are modulated.
+    pub fn kind(&self) -> String {
+        let with = if self.is_modulated { ", modulated" } else { "" };
+        format!("by {}{with}", self.factor)
+    }
+
+    /// Its modes, but for an Off in slot 1, and its kind.
+    pub fn name(&self) -> String {
+        let modes = match self.modes {
+            [mode0, 0] => format!("{:?}", api::mode(mode0)),
+            modes => modes.map(|mode| format!("{:?}", api::mode(mode))).join(", "),
+        };
+        format!("{modes} {}", self.kind())
+    }
+
+    /// The numbers of the whole block's run.
+    fn call(&self, counts: [u32; 3]) -> Call {
+        let Way { lanes, frames, .. } = self.way;
+        Call {
+            characters: [0.25, 0.125],
+            factor: self.factor,
+            lanes,
+            active: lanes,
+            frames,
+            first: 0,
+            count: frames,
+            rate: 48_000,
+            counts,
+            ..Call::of(&Draws::default(), self.modes, false, Most { lanes, frames })
+        }
+    }
+
+    /// Its nanoseconds a rendered sample.
+    pub fn measured(&self) -> Times {
+        Block::new(self).measured(self.way.range)
     }
 }
 
-/// A block's numbers, in one call, and its buffers: sources where a mode reads one.
+/// A block's numbers and its buffers: sources where a mode reads one.
 struct Block {
     call: Call,
     designs: [Design; 3],
@@ -71,10 +111,10 @@ struct Block {
 }
 
 impl Block {
-    fn new(modes: [u32; 2], factor: u32, is_modulated: bool) -> Self {
+    fn new(run: &Run) -> Self {
         let designs = halfband::designs();
         let (counts, coefs) = numbers(&designs);
-        let call = Call { counts, ..whole(modes, factor) };
+        let call = run.call(counts);
         let angles = angles();
         let mut g = Generator(0x5eed);
         let length = |buffer: Buffer| buffer.asked(&call) as usize;
@@ -82,14 +122,14 @@ impl Block {
             Buffer::Coefs => coefs[i],
             Buffer::Numbers => angles[i],
             // in between, where every mode has work to do
-            Buffer::Base0 | Buffer::Base1 => 37.0 + i as f32,
+            Buffer::Base0 | Buffer::Base1 => 37.0 + (i % 8) as f32,
             _ => buffer.cell(g.draw(), false),
         });
-        cells.words = words(length(Buffer::Words) as u32, factor);
+        cells.words = words(length(Buffer::Words) as u32, call.lanes, call.factor);
         let is_given = |buffer| match buffer {
-            Buffer::Mod0 | Buffer::Mod1 => is_modulated,
-            Buffer::Source0 => api::source(modes[0]) != 0,
-            Buffer::Source1 => api::source(modes[1]) != 0,
+            Buffer::Mod0 | Buffer::Mod1 => run.is_modulated,
+            Buffer::Source0 => api::source(run.modes[0]) != 0,
+            Buffer::Source1 => api::source(run.modes[1]) != 0,
             _ => true,
         };
         let lengths = Buffer::ALL.map(|buffer| if is_given(buffer) { length(buffer) } else { 0 });
@@ -99,64 +139,44 @@ impl Block {
         block
     }
 
-    /// The medians of both sides' nanoseconds a sample.
-    fn measure(mut self) -> [f64; 2] {
+    /// Both sides in calls of so many host frames. What they are lent is made before, as a host has it at
+    /// hand, and the Rust's decimator keeps its state, as the crate's does.
+    fn measured(mut self, range: u32) -> Times {
         let mut theirs = self.cells.clone();
-        let lent = theirs.lend(&self.lengths);
-        let card = Card::new(&self.call.settings(), &lent.lent);
+        let (call, mut ours, lent) = (self.call, self.cells.lend(&self.lengths), theirs.lend(&self.lengths));
+        let card = Card::new(&call.settings(), &lent.lent);
         let rows = Rows { cycle: lent.cycle, words: lent.words, steps: lent.steps, inner: lent.inner };
         let mut state = State { pairs: lent.pairs, fm: lent.fm, last: lent.last };
-        let samples = self.call.rendered() * LANES;
+        let mut kept = Kept::new(&self.designs, call.lanes as usize, lent.state);
+        let samples = call.rendered() * call.lanes;
         let blocks = SAMPLES.div_ceil(samples);
-        let timed = |run: &mut dyn FnMut()| {
-            let start = Instant::now();
-            (0..blocks).for_each(|_| run());
-            start.elapsed().as_secs_f64() * 1e9 / f64::from(blocks * samples)
-        };
-        let mut times = [const { Vec::new() }; 2];
-        for _ in 0..ROUNDS {
-            times[0].push(timed(&mut || {
-                black_box(card::block_run(black_box(&self.call), self.cells.lend(&self.lengths)));
-            }));
-            times[1].push(timed(&mut || {
-                let (rows, range) = (black_box(&rows), 0..FRAMES as usize);
-                black_box(&card).run(range, &self.designs, rows, lent.output, lent.work, state.again(), lent.state);
-            }));
-        }
+        let firsts = || (0..blocks).flat_map(|_| (0..call.frames).step_by(range as usize));
+        let rounds = (ALL_SAMPLES / (blocks * samples)).clamp(LEAST_ROUNDS, MOST_ROUNDS);
+        let times = medians(
+            rounds as usize,
+            f64::from(blocks * samples),
+            || {
+                for first in firsts() {
+                    black_box(card::block_run(&black_box(Call { first, count: range, ..call }), &mut ours));
+                }
+            },
+            || {
+                for first in firsts() {
+                    let range = black_box(first as usize..(first + range) as usize);
+                    black_box(&card).run_kept(range, &mut kept, &rows, lent.output, lent.work, state.again());
+                }
+            },
+        );
+        kept.state_to(lent.state);
+        self.check(&theirs);
+        times
+    }
+
+    /// Both sides have done the same.
+    fn check(&self, theirs: &Buffers) {
         for &buffer in Kind::Run.changed() {
-            let [ours, theirs] = [&self.cells, &theirs].map(|cells| &cells.floats[buffer as usize]);
+            let [ours, theirs] = [&self.cells, theirs].map(|cells| &cells.floats[buffer as usize]);
             assert_eq!(differs(ours, theirs), None, "{buffer:?} of {:?}", self.call);
         }
-        times.map(median)
     }
-}
-
-fn median(mut times: Vec<f64>) -> f64 {
-    times.sort_by(f64::total_cmp);
-    times[times.len() / 2]
-}
-
-/// Prints a row for each pair of modes and each factor; gives their names and ratios.
-fn rows(is_modulated: bool) -> Vec<(String, f64)> {
-    let with = if is_modulated { "with" } else { "without" };
-    println!(
-        "block runs {with} modulation, {LANES} lanes, {FRAMES} frames: ns a rendered sample, the oracle's, the ratio"
-    );
-    let all = PAIRS.into_iter().flat_map(|modes| [1, 4, 8].map(|factor| (modes, factor)));
-    let row = |(modes, factor): ([&str; 2], u32)| {
-        let [ours, theirs] = Block::new(modes.map(mode), factor, is_modulated).measure();
-        let name = format!("{} by {factor}", modes.join(", "));
-        println!("{name:<28} {ours:7.2} {theirs:7.2} {:6.2}", ours / theirs);
-        (format!("{name} {with} modulation"), ours / theirs)
-    };
-    all.map(row).collect()
-}
-
-/// All rows without modulation and then with it, the worst ratio and the geometric mean.
-pub fn table() {
-    let ratios = [false, true].map(rows).concat();
-    let (name, worst) = ratios.iter().max_by(|a, b| a.1.total_cmp(&b.1)).expect("some rows");
-    let logs: f64 = ratios.iter().map(|row| row.1.ln()).sum();
-    let mean = (logs / ratios.len() as f64).exp();
-    println!("block runs: worst ratio {worst:.2} ({name}), geometric mean {mean:.2}");
 }
