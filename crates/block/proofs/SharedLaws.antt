@@ -1,5 +1,5 @@
 -- The laws of a loop over lanes, each of which has its share: none, and one more. Assumes nothing.
-use mathlib.Core.Path.{_≡_, refl, _∙_}
+use mathlib.Core.Path.{_≡_, refl, _∙_, subst}
 use Prim.Native.Nat.{ℕ, _+_, _≤_}
 use native.Mathlib.Omega.{arith}
 use Rattle.grid.proofs.EachLaws.{each-none, each-join}
@@ -53,3 +53,8 @@ module _ {b : BlockSettings} {r : Range} {l : Lent} where
       → Shared b r l from (lane + 1) w w''
   shared-more h was did =
       record { lanes = each-join h (omega arith) (was .lanes) (did .lanes); sizes = sizes-more (was .sizes) (did .sizes) }
+
+-- by settings that are the same
+pub shared-by : {b b' : BlockSettings} {r : Range} {l : Lent} {from to : ℕ} {w w' : Buffers} → b' ≡ b → Shared b' r l from to w w'
+    → Shared b r l from to w w'
+shared-by {r = r} {l = l} {from = from} {to = to} {w = w} {w' = w'} e = subst (λ (x : BlockSettings). Shared x r l from to w w') e

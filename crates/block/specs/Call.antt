@@ -1,5 +1,5 @@
 -- A block run as data, and what it promises: `block_run`'s contract is `Meets`. Definitions only.
-use Prim.Native.Nat.{ℕ}
+use Prim.Native.Nat.{ℕ, _≤_}
 use mathlib.Core.Path.{_≡_}
 use mathlib.Core.Bool.{cond}
 use lib.Dec.{eqb}
@@ -7,10 +7,14 @@ use lib.ListN.{length}
 use Rattle.grid.specs.Lanes.{Each}
 use Rattle.limits.specs.declared.answers.Answer.{Answer}
 use Rattle.controls.specs.Controls.{controlLengths}
+use Rattle.halfband.specs.Floats.{designOf}
 use Rattle.shaper.specs.declared.settings.Range.{Range}
 use Rattle.render.specs.declared.state.BlockSettings.{BlockSettings}
 use Rattle.render.specs.Lane.{Lent, Inputs, inputsOf}
+use Rattle.render.specs.Promises.{Limits, Readable}
 use Rattle.share.specs.Share.{Buffers, Columns, columnsOf, share}
+use Rattle.share.specs.Promises.{Writable}
+use Rattle.block.specs.declared.refusal.CallNumbers.{CallNumbers}
 use Rattle.block.specs.declared.refusal.ReadLengths.{ReadLengths}
 use Rattle.block.specs.declared.refusal.WriteLengths.{WriteLengths}
 use Rattle.block.specs.Refusal.{blockRefusal}
@@ -26,6 +30,24 @@ pub record Call : Type 0 where
   pub before : Buffers
   pub after : Buffers
   pub answer : Answer
+
+-- what the table looks at: numbers, and the lengths of what is lent to read and to write
+abbrev pub callNumbers : BlockSettings → Range → ℕ → CallNumbers
+callNumbers b r active =
+    record {
+      mode0 = b .shaper .slot0 .mode;
+      mode1 = b .shaper .slot1 .mode;
+      factor = b .shaper .factor;
+      lanes = b .shaper .lanes;
+      active = active;
+      frames = b .shaper .frames;
+      first = r .first;
+      count = r .count;
+      rate = b .rate;
+      count0 = designOf (b .designs) 0 .count;
+      count1 = designOf (b .designs) 1 .count;
+      count2 = designOf (b .designs) 2 .count;
+    }
 
 abbrev pub readLengths : ℕ → ℕ → Lent → ReadLengths
 readLengths coefs numbers r =
@@ -53,7 +75,16 @@ writeLengths b =
 
 -- the number by the table
 unfoldable pub refusalOf : Call → ℕ
-refusalOf c = blockRefusal (c .settings) (c .range) (c .active) (readLengths (c .coefs) (c .numbers) (c .lent)) (writeLengths (c .before))
+refusalOf c =
+    blockRefusal (callNumbers (c .settings) (c .range) (c .active)) (readLengths (c .coefs) (c .numbers) (c .lent)) (writeLengths (c .before))
+
+-- what an accepted run has, and all that `run_lanes` asks for
+pub record Taken (b : BlockSettings) (r : Range) (active : ℕ) (l : Lent) (w : Buffers) : Type 0 where
+  pub limits : Limits b r
+  pub some : 1 ≤ b .shaper .lanes
+  pub actives : active ≤ b .shaper .lanes
+  pub readable : Readable (b .shaper) l
+  pub writable : Writable (b .shaper) r w
 
 abbrev pub lanesOf : Call → ℕ
 lanesOf c = c .settings .shaper .lanes

@@ -4,10 +4,13 @@ pub mod refusal;
 pub mod run;
 pub mod settings;
 
+pub use refusal::CallNumbers;
 pub use refusal::ReadLengths;
 pub use refusal::WriteLengths;
+pub use refusal::read_lengths;
 pub use refusal::refused;
+pub use refusal::write_lengths;
 pub use render::BlockSettings;
 pub use run::block_run;
-pub use settings::bare_settings;
+pub use run::run_lanes;
 pub use settings::settings_of;

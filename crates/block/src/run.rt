@@ -1,29 +1,25 @@
 // The run of any range of a block.
-use crate::refusal::ReadLengths;
-use crate::refusal::WriteLengths;
+use crate::refusal::call_numbers;
+use crate::refusal::read_lengths;
 use crate::refusal::refused;
+use crate::refusal::write_lengths;
 use limits::Answer;
 use limits::COEFS_LENGTH;
-use limits::ControlLengths;
 use limits::NUMBERS_LENGTH;
 use render::BlockSettings;
 use shaper::Range;
 use share::run_lane;
-ghost use mathlib.Core.Path.{_≡_};
-ghost use Prim.Native.Nat.{_≤_};
-ghost use Rattle.floats.specs.Exp2.{entries};
 ghost use Rattle.limits.specs.Lengths.{coefsLength, numbersLength};
-ghost use Rattle.render.specs.Promises.{lent, Limits, Readable};
+ghost use Rattle.render.specs.Promises.{lent};
 ghost use Rattle.share.specs.Share.{buffers};
-ghost use Rattle.share.specs.Promises.{Writable, Shared};
-ghost use Rattle.block.specs.Call.{called, Meets};
+ghost use Rattle.share.specs.Promises.{Shared};
+ghost use Rattle.block.specs.Call.{called, Taken, Meets};
 
-// The active lanes, one after another: no lane looks at another's numbers.
-fn run_lanes(
-    powers: &[u32; 257],
+// A run that is accepted: the active lanes, one after another. No lane looks at another's numbers.
+pub fn run_lanes(
     b: BlockSettings,
     r: Range,
-    active: usize,
+    active: u32,
     base0: &[f32],
     base1: &[f32],
     mod0: &[f32],
@@ -42,18 +38,19 @@ fn run_lanes(
     last: &mut [f32],
     dec: &mut [f32],
 )
-    requires { ⌜ now powers ≡ entries ⌝ ∗ ⌜ active ≤ b .shaper .lanes ⌝ ∗ ⌜ Limits b r ⌝ }
-    requires { ⌜ Readable (b .shaper) (lent (now base0) (now base1) (now mod0) (now mod1) (now source0) (now source1) (now curve) (now cycle) (now words) (now steps) (now inner)) ⌝ }
-    requires { ⌜ Writable (b .shaper) r (buffers (now output) (now work) (now pairs) (now fm) (now last) (now dec)) ⌝ }
+    requires { ⌜ Taken b r active
+        (lent (now base0) (now base1) (now mod0) (now mod1) (now source0) (now source1) (now curve) (now cycle) (now words) (now steps) (now inner))
+        (buffers (now output) (now work) (now pairs) (now fm) (now last) (now dec)) ⌝ }
     ensures { λ _. ⌜ Shared b r
         (lent (now (base0 .entry)) (now (base1 .entry)) (now (mod0 .entry)) (now (mod1 .entry)) (now (source0 .entry)) (now (source1 .entry)) (now (curve .entry)) (now (cycle .entry)) (now (words .entry)) (now (steps .entry)) (now (inner .entry)))
         0 active
         (buffers (now (output .entry)) (now (work .entry)) (now (pairs .entry)) (now (fm .entry)) (now (last .entry)) (now (dec .entry)))
         (buffers (now (output .exit)) (now (work .exit)) (now (pairs .exit)) (now (fm .exit)) (now (last .exit)) (now (dec .exit))) ⌝ }
 {
-    for lane in 0..active {
+    let powers = floats::power_table();
+    for lane in 0..active as usize {
         run_lane(
-            powers,
+            &powers,
             b,
             r,
             lane,
@@ -107,41 +104,32 @@ pub fn block_run(
         (buffers (now (output .entry)) (now (work .entry)) (now (pairs .entry)) (now (fm .entry)) (now (last .entry)) (now (dec .entry)))
         (buffers (now (output .exit)) (now (work .exit)) (now (pairs .exit)) (now (fm .exit)) (now (last .exit)) (now (dec .exit))) a) ⌝ }
 {
-    let reads = ReadLengths {
-        controls: ControlLengths {
-            base0: base0.len(),
-            base1: base1.len(),
-            mod0: mod0.len(),
-            mod1: mod1.len(),
-            source0: source0.len(),
-            source1: source1.len(),
-        },
-        curve: curve.len(),
-        cycle: cycle.len(),
-        words: words.len(),
-        steps: steps.len(),
-        inner: inner.len(),
-        coefs: COEFS_LENGTH,
-        numbers: NUMBERS_LENGTH,
-    };
-    let writes = WriteLengths {
-        output: output.len(),
-        work: work.len(),
-        pairs: pairs.len(),
-        fm: fm.len(),
-        last: last.len(),
-        dec: dec.len(),
-    };
-    let number = refused(b, r, active, reads, writes);
+    let number = refused(
+        call_numbers(b, r, active),
+        read_lengths(
+            base0,
+            base1,
+            mod0,
+            mod1,
+            source0,
+            source1,
+            curve,
+            cycle,
+            words,
+            steps,
+            inner,
+            COEFS_LENGTH,
+            NUMBERS_LENGTH,
+        ),
+        write_lengths(output, work, pairs, fm, last, dec),
+    );
     if number != 0 {
         return Answer { number, frames: 0 };
     }
-    let powers = floats::power_table();
     run_lanes(
-        &powers,
         b,
         r,
-        active as usize,
+        active,
         base0,
         base1,
         mod0,

@@ -6,8 +6,7 @@ use render::BlockSettings;
 use shaper::Settings;
 ghost use mathlib.Core.Path.{_≡_};
 ghost use Prim.Native.Nat.{_≤_};
-ghost use lib.ListN.{length, replicate};
-ghost use Rattle.floats.specs.F32.{0f};
+ghost use lib.ListN.{length};
 ghost use Rattle.limits.specs.Lengths.{coefsLength, numbersLength};
 ghost use Rattle.block.specs.Numbers.{numbersOf, settingsOf};
 
@@ -64,40 +63,4 @@ pub fn settings_of(
         rate: rate,
         designs: designs,
     }
-}
-
-// The settings with zeros on both slices: a refusal goes by no coefficient and by no such number.
-pub fn bare_settings(
-    mode0: u32,
-    mode1: u32,
-    character0: f32,
-    character1: f32,
-    factor: u32,
-    lanes: u32,
-    frames: u32,
-    rate: u32,
-    count0: u32,
-    count1: u32,
-    count2: u32,
-) -> BlockSettings
-    ensures { λ r. ⌜ r ≡ settingsOf mode0 mode1 character0 character1 factor lanes frames rate count0 count1 count2
-        (replicate 36 0f) (replicate 13 0f) ⌝ }
-{
-    let coefs = [0.0; 36];
-    let numbers = [0.0; 13];
-    settings_of(
-        mode0,
-        mode1,
-        character0,
-        character1,
-        factor,
-        lanes,
-        frames,
-        rate,
-        count0,
-        count1,
-        count2,
-        &coefs,
-        &numbers,
-    )
 }

@@ -1,12 +1,11 @@
 // The block run.
-use block::ReadLengths;
-use block::WriteLengths;
-use block::bare_settings;
-use block::block_run;
+use block::CallNumbers;
+use block::read_lengths;
 use block::refused;
+use block::run_lanes;
 use block::settings_of;
+use block::write_lengths;
 use limits::Answer;
-use limits::ControlLengths;
 use shaper::Range;
 ghost use lib.ListN.{length};
 ghost use Rattle.render.specs.Promises.{lent};
@@ -50,63 +49,49 @@ pub extern "C" fn shaper_block_run(
     pairs: &mut [f32],
     fm: &mut [f32],
     last: &mut [f32],
-    state: &mut [f32],
+    dec: &mut [f32],
 ) -> Answer
     ensures { λ a. ⌜ Meets (called
         (settingsOf mode0 mode1 character0 character1 factor lanes frames rate count0 count1 count2 (now (coefs .entry)) (now (numbers .entry)))
         (rangeOf first count) active (length (now (coefs .entry))) (length (now (numbers .entry)))
         (lent (now (base0 .entry)) (now (base1 .entry)) (now (mod0 .entry)) (now (mod1 .entry)) (now (source0 .entry)) (now (source1 .entry)) (now (curve .entry)) (now (cycle .entry)) (now (words .entry)) (now (steps .entry)) (now (inner .entry)))
-        (buffers (now (output .entry)) (now (work .entry)) (now (pairs .entry)) (now (fm .entry)) (now (last .entry)) (now (state .entry)))
-        (buffers (now (output .exit)) (now (work .exit)) (now (pairs .exit)) (now (fm .exit)) (now (last .exit)) (now (state .exit))) a) ⌝ }
+        (buffers (now (output .entry)) (now (work .entry)) (now (pairs .entry)) (now (fm .entry)) (now (last .entry)) (now (dec .entry)))
+        (buffers (now (output .exit)) (now (work .exit)) (now (pairs .exit)) (now (fm .exit)) (now (last .exit)) (now (dec .exit))) a) ⌝ }
 {
-    let r = Range {
-        first: first,
-        count: count,
-    };
-    let bare = bare_settings(
-        mode0,
-        mode1,
-        character0,
-        character1,
-        factor,
-        lanes,
-        frames,
-        rate,
-        count0,
-        count1,
-        count2,
-    );
-    let reads = ReadLengths {
-        controls: ControlLengths {
-            base0: base0.len(),
-            base1: base1.len(),
-            mod0: mod0.len(),
-            mod1: mod1.len(),
-            source0: source0.len(),
-            source1: source1.len(),
+    let number = refused(
+        CallNumbers {
+            mode0,
+            mode1,
+            factor,
+            lanes,
+            active,
+            frames,
+            first,
+            count,
+            rate,
+            count0,
+            count1,
+            count2,
         },
-        curve: curve.len(),
-        cycle: cycle.len(),
-        words: words.len(),
-        steps: steps.len(),
-        inner: inner.len(),
-        coefs: coefs.len(),
-        numbers: numbers.len(),
-    };
-    let writes = WriteLengths {
-        output: output.len(),
-        work: work.len(),
-        pairs: pairs.len(),
-        fm: fm.len(),
-        last: last.len(),
-        dec: state.len(),
-    };
-    let number = refused(bare, r, active, reads, writes);
+        read_lengths(
+            base0,
+            base1,
+            mod0,
+            mod1,
+            source0,
+            source1,
+            curve,
+            cycle,
+            words,
+            steps,
+            inner,
+            coefs.len(),
+            numbers.len(),
+        ),
+        write_lengths(output, work, pairs, fm, last, dec),
+    );
     if number != 0 {
-        return Answer {
-            number: number,
-            frames: 0,
-        };
+        return Answer { number, frames: 0 };
     }
     let b = settings_of(
         mode0,
@@ -123,9 +108,9 @@ pub extern "C" fn shaper_block_run(
         coefs,
         numbers,
     );
-    block_run(
+    run_lanes(
         b,
-        r,
+        Range { first, count },
         active,
         base0,
         base1,
@@ -143,6 +128,10 @@ pub extern "C" fn shaper_block_run(
         pairs,
         fm,
         last,
-        state,
-    )
+        dec,
+    );
+    Answer {
+        number: 0,
+        frames: count,
+    }
 }

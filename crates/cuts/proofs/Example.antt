@@ -14,7 +14,7 @@ use Rattle.controls.specs.Controls.{controlBuffers}
 use Rattle.render.specs.Lane.{Lent}
 use Rattle.share.specs.Share.{Buffers}
 use Rattle.block.specs.Refusal.{blockRefusal}
-use Rattle.block.specs.Call.{Call, readLengths, writeLengths, refusalOf}
+use Rattle.block.specs.Call.{Call, callNumbers, readLengths, writeLengths, refusalOf}
 use Rattle.cuts.specs.Cuts.{leaving, RunA, Agree, Demand3}
 use Rattle.cuts.proofs.Made.{made, met-by}
 use Rattle.cuts.proofs.Runs.{range, whole, firstPart, secondPart, refused-lent, in-two}
@@ -59,7 +59,7 @@ before =
       dec = replicate 144 0f;
     }
 
-passes-all : blockRefusal settings (range 0 6) 1 (readLengths 36 13 lent) (writeLengths before) ≡ 0
+passes-all : blockRefusal (callNumbers settings (range 0 6) 1) (readLengths 36 13 lent) (writeLengths before) ≡ 0
 unfolding settings lent before blockRefusal firstOf cardDesigns spansOf
 passes-all = refl
 

@@ -24,8 +24,8 @@ use Rattle.share.specs.Share.{Buffers, Columns, columnsOf, share}
 use Rattle.share.specs.Promises.{Writable}
 use Rattle.block.specs.declared.refusal.WriteLengths.{WriteLengths}
 use Rattle.block.specs.Refusal.{blockRefusal}
-use Rattle.block.specs.Call.{Call, Meets, readLengths, writeLengths, refusalOf}
-use Rattle.block.proofs.RefusalLaws.{Taken, accepted}
+use Rattle.block.specs.Call.{Call, Meets, callNumbers, readLengths, writeLengths, refusalOf, Taken}
+use Rattle.block.proofs.RefusalLaws.{accepted}
 use Rattle.cuts.proofs.Accepted.{good}
 use Rattle.cuts.proofs.State.{columns-end}
 use Rattle.cuts.proofs.Leaves.{Left, all-left, share-left}
@@ -140,7 +140,7 @@ module _ (s : Settings) (r : Range) (b : Buffers) (holds : Writable s r b) (w : 
 
 module _ (settings : BlockSettings) (range : Range) (active coefs numbers : ℕ) (lent : Lent) (before : Buffers) where
   abbrev pub madeNumber : ℕ
-  madeNumber = blockRefusal settings range active (readLengths coefs numbers lent) (writeLengths before)
+  madeNumber = blockRefusal (callNumbers settings range active) (readLengths coefs numbers lent) (writeLengths before)
 
   -- a lane's columns before the call, and after it if it's active and accepted
   abbrev entered : ℕ → Columns

@@ -10,7 +10,7 @@ use lib.ListN.{getD, length}
 use lib.Ieee.{Float, nan}
 use Rattle.grid.specs.Cells.{column}
 use Rattle.grid.proofs.CellLaws.{col-at, length-column, getD-column}
-use Rattle.limits.proofs.LineLaws.{in-range}
+use Rattle.limits.proofs.LineLaws.{good-range, in-range}
 use Rattle.halfband.specs.Ranges.{total}
 use Rattle.shaper.specs.declared.settings.Range.{Range}
 use Rattle.render.specs.declared.state.BlockSettings.{BlockSettings}
@@ -18,8 +18,8 @@ use Rattle.render.specs.Lane.{Lent}
 use Rattle.share.specs.Share.{Buffers}
 use Rattle.share.specs.Promises.{Writable}
 use Rattle.block.specs.Refusal.{blockRefusal}
-use Rattle.block.specs.Call.{Call, Meets, readLengths, writeLengths, refusalOf, lanesOf}
-use Rattle.block.proofs.RefusalLaws.{Passed, passes, line-frames, writable, all-long, call-passed}
+use Rattle.block.specs.Call.{Call, Meets, callNumbers, readLengths, writeLengths, refusalOf, lanesOf}
+use Rattle.block.proofs.RefusalLaws.{Passed, passes, writable, all-long, call-passed}
 use Rattle.cuts.specs.Cuts.{stateOf, entering, leaving, Which, buffer, Carried, kept-back, lent-at, Around, RunA, RunB, end, refuse, accept}
 use Rattle.cuts.proofs.Made.{made, met-by, made-sizes}
 
@@ -30,7 +30,7 @@ range at count = record { first = at; count = count }
 
 -- any arguments that pass the table, for the whole block, make one
 pub whole : (settings : BlockSettings) (active coefs numbers : ℕ) (lent : Lent) (before : Buffers) (lane : ℕ)
-    → blockRefusal settings (range 0 (settings .shaper .frames)) active (readLengths coefs numbers lent) (writeLengths before) ≡ 0
+    → blockRefusal (callNumbers settings (range 0 (settings .shaper .frames)) active) (readLengths coefs numbers lent) (writeLengths before) ≡ 0
     → lane < active → RunA (made settings (range 0 (settings .shaper .frames)) active coefs numbers lent before) lane
 unfolding refusalOf
 whole settings active coefs numbers lent before lane ok on =
@@ -128,13 +128,13 @@ module _ (a : Call) (lane : ℕ) (w : RunA a lane) where
   abbrev F : ℕ
   F = a .settings .shaper .frames
 
-  lines : Passed (a .settings) (a .range) (a .active) (readLengths (a .coefs) (a .numbers) (a .lent)) (writeLengths (a .before))
+  lines : Passed (callNumbers (a .settings) (a .range) (a .active)) (readLengths (a .coefs) (a .numbers) (a .lent)) (writeLengths (a .before))
   lines = call-passed a (w .accepted)
 
   -- what Run A is lent to write is long enough for each part
   part-held : (at k : ℕ) → at + k ≤ F → Writable (a .settings .shaper) (range at k) (a .before)
   part-held at k fit =
-      let h = writable (a .settings .shaper) (a .range) (a .before) (lines .written) in
+      let h = writable (a .settings) (a .range) (a .active) (a .before) (lines .written) in
       let rows : k * a .settings .shaper .factor ≤ F * a .settings .shaper .factor = mul-le-mul-right _ (omega arith) in
       let work : F * a .settings .shaper .factor * lanesOf a ≤ writeLengths (a .before) .work =
       subst (λ (c : ℕ). c * a .settings .shaper .factor * lanesOf a ≤ writeLengths (a .before) .work) (w .count) (h .work) in
@@ -152,16 +152,16 @@ module _ (a : Call) (lane : ℕ) (w : RunA a lane) where
   unfolding refusalOf
   part-accepted at k before fit size =
       rw size
-      (passes (a .settings) (range at k) (a .active) _ _
+      (passes (callNumbers (a .settings) (range at k) (a .active)) _ _
       (record {
         modes = lines .modes;
         factors = lines .factors;
         lanes = lines .lanes;
-        ranges = in-range F at k (line-frames (a .settings .shaper) (a .range) (lines .ranges)) fit;
+        ranges = in-range F at k (good-range F (a .range .first) (a .range .count) (lines .ranges) .0) fit;
         rates = lines .rates;
         counts = lines .counts;
         read = lines .read;
-        written = all-long (a .settings .shaper) (range at k) (a .before) (part-held at k fit);
+        written = all-long (a .settings) (range at k) (a .active) (a .before) (part-held at k fit);
       }))
 
   pub in-parts-from : (at : ℕ) (before : Buffers) (ks : List ℕ) → at + total ks ≡ F → writeLengths before ≡ writeLengths (a .before)

@@ -1,13 +1,9 @@
 // Document 01's boundary values: mode 69 passes, 70 is 1; 64 lanes pass, 65 is 3; 4,096 frames pass,
 // 4,097 is 4; a curve of 1,025 entries passes, one of 1,024 is 7. The calls are asked with lengths alone.
-use block::BlockSettings;
+use block::CallNumbers;
 use block::ReadLengths;
 use block::WriteLengths;
-use halfband::card_designs;
 use limits::ControlLengths;
-use phase::Slot;
-use shaper::Range;
-use shaper::Settings;
 use spans::refusal::PrepareLengths;
 use spans::refusal::prepare_refused;
 
@@ -77,30 +73,20 @@ fn prepare_number(b: Boundary) -> u32 {
     )
 }
 
-fn settings(b: Boundary) -> BlockSettings {
-    let slot = Slot {
-        mode: b.mode,
-        character: 0.0,
-    };
-    let shaper = Settings {
-        slot0: slot,
-        slot1: slot,
+fn run_number(b: Boundary) -> u32 {
+    let call = CallNumbers {
+        mode0: b.mode,
+        mode1: b.mode,
         factor: 8,
         lanes: b.lanes,
+        active: b.lanes,
         frames: b.frames,
-        numbers: lanes::rust_numbers(),
-    };
-    BlockSettings {
-        shaper,
-        rate: 192000,
-        designs: card_designs(),
-    }
-}
-
-fn run_number(b: Boundary) -> u32 {
-    let range = Range {
         first: 0,
         count: b.frames,
+        rate: 192000,
+        count0: 12,
+        count1: 12,
+        count2: 12,
     };
     let reads = ReadLengths {
         controls: long_controls(),
@@ -120,7 +106,7 @@ fn run_number(b: Boundary) -> u32 {
         last: LONG,
         dec: LONG,
     };
-    block::refused(settings(b), range, b.lanes, reads, writes)
+    block::refused(call, reads, writes)
 }
 
 fn decimate_number(b: Boundary) -> u32 {

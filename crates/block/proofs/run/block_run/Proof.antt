@@ -1,15 +1,44 @@
--- `run::block_run` meets its contract. Assumes nothing.
+-- `run::block_run` meets its contract: one test, and what is accepted is run. Assumes nothing.
 use mathlib.Core.Path.{_≡_, sym, _∙_}
+use Prim.Native.Nat.{ℕ}
 use borrow.Author.Needs.{needs}
 use Rattle.render.specs.Lane.{Lent}
 use Rattle.share.specs.Share.{Buffers, buffers}
 use Rattle.render.specs.Promises.{lent}
 use Rattle.block.specs.Refusal.{blockRefusal}
-use Rattle.block.specs.Call.{readLengths, writeLengths}
-use Rattle.block.proofs.RefusalLaws.{accepted}
+use Rattle.block.specs.Call.{callNumbers, readLengths, writeLengths}
+use Rattle.block.proofs.RefusalLaws.{by-parts, accepted}
 use Rattle.block.proofs.CallLaws.{meets-refused, meets-shared}
 use Rattle.block.proofs.run.block_run.Statement.{statement}
 use Rattle.block.proofs.run.block_run.Tie as tie
+
+-- ---- the places on the way: from each call back to the one before, and from the first to the entry
+
+abbrev start : tie.After-call-numbers → tie.Start
+start c = c .before .before .before .before .before .before .before .before .before .before .before .before .before .before .before .before .before .before
+
+abbrev numbered : tie.After-read-lengths → tie.After-call-numbers
+numbered c = c .before
+
+abbrev measured : tie.After-write-lengths → tie.After-read-lengths
+measured c = c .before .before .before .before .before .before .before
+
+abbrev gathered : tie.After-refused → tie.After-write-lengths
+gathered c = c .before
+
+abbrev tested : tie.After-run-lanes-arg6 → tie.Else1
+tested c = c .before .before .before .before .before .before
+
+abbrev lends : tie.After-run-lanes → tie.After-run-lanes-arg6
+lends c = c .before
+
+abbrev ran : tie.After-slice-known12 → tie.After-run-lanes
+ran c = c .before .before .before .before .before .before .before .before .before .before .before .before
+
+abbrev entry : tie.After-refused → tie.Start
+entry c = start (numbered (measured (gathered c)))
+
+-- ---- the test
 
 -- what is lent to read, and to write
 abbrev reads : tie.Start → Lent
@@ -20,46 +49,60 @@ reads c =
 abbrev writes : tie.Start → Buffers
 writes c = let a = c .args in buffers (a .output .now) (a .work .now) (a .pairs .now) (a .fm .now) (a .last .now) (a .dec .now)
 
-abbrev start : tie.After-refused → tie.Start
-start c = c .before .before .before .before .before .before .before .before .before .before .before .before .before .before .before .before .before .before
+abbrev number : tie.Start → ℕ
+number c =
+    let a = c .args in
+    blockRefusal (callNumbers (a .b) (a .r) (a .active)) (readLengths 36 13 (reads c)) (writeLengths (writes c))
 
--- past the refusals the number is 0
-none : (c : tie.Else1)
-    → let a = start (c .before) .args in
-    blockRefusal (a .b) (a .r) (a .active) (readLengths 36 13 (reads (start (c .before)))) (writeLengths (writes (start (c .before)))) ≡ 0
-none c = sym (c .before .refused .ensures) ∙ c .if1 .left
+by-table : (c : tie.After-refused) → c .refused .result ≡ number (entry c)
+by-table c =
+    let w = gathered c in
+    let r = measured w in
+    by-parts (numbered r .call-numbers .ensures) (r .read-lengths .ensures) (w .write-lengths .ensures) (c .refused .ensures)
+
+none : (c : tie.Else1) → number (entry (c .before)) ≡ 0
+none c = sym (by-table (c .before)) ∙ c .if1 .left
 
 returns : tie.Need-returns
 returns c =
-    let o = start (c .before) in
-    meets-refused (o .args .b) (o .args .r) (o .args .active) 36 13 (reads o) (writes o) (c .before .refused .result)
-    (c .before .refused .ensures) (c .if1 .taken)
+    let o = entry (c .before) in
+    meets-refused (o .args .b) (o .args .r) (o .args .active) 36 13 (reads o) (writes o) _ (by-table (c .before)) (c .if1 .taken)
+
+-- ---- the run
 
 run-lanes-requires : tie.Need-run-lanes-requires
 run-lanes-requires c κs =
-    let e = c .before .before .before .before .before .before .before .before in
-    let o = start (e .before) in
-    let taken = accepted (o .args .b) (o .args .r) (o .args .active) 36 13 (reads o) (writes o) (none e) in
-    (c .before .before .before .before .before .before .before .power-table .ensures .0, (taken .actives, (taken .limits, (taken .readable, taken .writable))))
+    let e = tested c in
+    let o = entry (e .before) in
+    accepted (o .args .b) (o .args .r) (o .args .active) 36 13 (reads o) (writes o) (none e)
 
 returns-2 : tie.Need-returns-2
 returns-2 c =
-    let e = c .before .before .before .before .before .before .before .before .before .before .before .before .before .before .before .before .before .before .before .before .before in
-    let o = start (e .before) in
-    meets-shared (o .args .b) (o .args .r) (o .args .active) 36 13 (reads o) (writes o) (none e) (c .before .before .before .before .before .before .before .before .before .before .before .before .run-lanes .ensures)
+    let did = ran c in
+    let e = tested (lends did) in
+    let o = entry (e .before) in
+    meets-shared (o .args .b) (o .args .r) (o .args .active) 36 13 (reads o) (writes o) (none e) (did .run-lanes .ensures)
 
 pub block-run-spec : {M : Type 1} → statement M
 block-run-spec =
     tie.close
     (tie.spec
     (λ c κs. search needs)
-    returns
     (λ c κs. search needs)
+    (λ c κs. search needs)
+    (λ c κs. search needs)
+    (λ c. search needs)
+    (λ c. search needs)
+    (λ c. search needs)
+    (λ c. search needs)
+    (λ c. search needs)
+    (λ c. search needs)
+    returns
     run-lanes-requires
-    (λ c. c .before .before .before .before .before .before .before .before .before .before .before .before .run-lanes .ensures .sizes .output)
-    (λ c. c .before .before .before .before .before .before .before .before .before .before .before .before .run-lanes .ensures .sizes .work)
-    (λ c. c .before .before .before .before .before .before .before .before .before .before .before .before .run-lanes .ensures .sizes .pairs)
-    (λ c. c .before .before .before .before .before .before .before .before .before .before .before .before .run-lanes .ensures .sizes .fm)
-    (λ c. c .before .before .before .before .before .before .before .before .before .before .before .before .run-lanes .ensures .sizes .last)
-    (λ c. c .before .before .before .before .before .before .before .before .before .before .before .before .run-lanes .ensures .sizes .dec)
+    (λ c. ran c .run-lanes .ensures .sizes .output)
+    (λ c. ran c .run-lanes .ensures .sizes .work)
+    (λ c. ran c .run-lanes .ensures .sizes .pairs)
+    (λ c. ran c .run-lanes .ensures .sizes .fm)
+    (λ c. ran c .run-lanes .ensures .sizes .last)
+    (λ c. ran c .run-lanes .ensures .sizes .dec)
     returns-2)

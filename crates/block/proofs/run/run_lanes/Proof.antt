@@ -2,6 +2,7 @@
 use Prim.Native.Nat.{ℕ, _≤_, _<_, _-_}
 use mathlib.Core.Path.{_≡_, subst}
 use native.Mathlib.Omega.{arith}
+use borrow.Author.Needs.{needs}
 use Rattle.render.specs.Lane.{Lent}
 use Rattle.share.specs.Share.{Buffers, buffers}
 use Rattle.render.specs.Promises.{lent}
@@ -11,17 +12,34 @@ use Rattle.block.proofs.run.run_lanes.Statement.{statement}
 use Rattle.block.proofs.run.run_lanes.Tie as tie
 
 abbrev Inv-loop : tie.InvT-loop
-Inv-loop powers b r active base0 base1 mod0 mod1 source0 source1 curve cycle words steps inner output₀ work₀ pairs₀ fm₀ last₀ dec₀ lane₀ output work pairs fm last dec lane =
+Inv-loop b r active base0 base1 mod0 mod1 source0 source1 curve cycle words steps inner output₀ work₀ pairs₀ fm₀ last₀ dec₀ powers lane₀ end output work pairs fm last dec lane =
     (lane ≤ active)
     × Shared b r (lent base0 base1 mod0 mod1 source0 source1 curve cycle words steps inner) 0 lane
     (buffers output₀ work₀ pairs₀ fm₀ last₀ dec₀) (buffers output work pairs fm last dec)
 
 abbrev μ-loop : tie.MeasureT-loop
-μ-loop powers b r active base0 base1 mod0 mod1 source0 source1 curve cycle words steps inner output₀ work₀ pairs₀ fm₀ last₀ dec₀ lane₀ output work pairs fm last dec lane =
+μ-loop b r active base0 base1 mod0 mod1 source0 source1 curve cycle words steps inner output₀ work₀ pairs₀ fm₀ last₀ dec₀ powers lane₀ end output work pairs fm last dec lane =
     active - lane
 
-abbrev start : tie.At-loop Inv-loop μ-loop → tie.Start Inv-loop μ-loop
+-- ---- the places on the way: from the loop's head back to the entry, and from a turn's end back to its head
+
+abbrev start : tie.After-power-table Inv-loop μ-loop → tie.Start Inv-loop μ-loop
 start c = c .before .before .before .before .before .before .before .before .before .before .before .before .before .before .before .before .before .before
+
+abbrev tabled : tie.At-loop Inv-loop μ-loop → tie.After-power-table Inv-loop μ-loop
+tabled c = c .before
+
+abbrev turned : tie.In-loop Inv-loop μ-loop → tie.At-loop Inv-loop μ-loop
+turned c = c .before
+
+abbrev lends : tie.After-run-lane-arg6 Inv-loop μ-loop → tie.In-loop Inv-loop μ-loop
+lends c = c .before .before .before .before .before .before .before
+
+abbrev ran : tie.After-run-lane Inv-loop μ-loop → tie.After-run-lane-arg6 Inv-loop μ-loop
+ran c = c .before
+
+abbrev ended : tie.After-slice-known12 Inv-loop μ-loop → tie.After-run-lane Inv-loop μ-loop
+ended c = c .before .before .before .before .before .before .before .before .before .before .before .before
 
 -- what is lent to read, what to write, and what stands there at the loop's head
 abbrev reads : tie.Start Inv-loop μ-loop → Lent
@@ -35,59 +53,39 @@ writes c = let a = c .args in buffers (a .output .now) (a .work .now) (a .pairs 
 abbrev here : tie.At-loop Inv-loop μ-loop → Buffers
 here c = let l = c .loop in buffers (l .output) (l .work) (l .pairs) (l .fm) (l .last) (l .dec)
 
--- the loop's head of a turn that ends
-abbrev head : tie.After-slice-known12 Inv-loop μ-loop → tie.At-loop Inv-loop μ-loop
-head c = c .before .before .before .before .before .before .before .before .before .before .before .before .before .before .before .before .before .before .before .before
-
 loop-holds : tie.Need-loop-holds Inv-loop μ-loop
 loop-holds c = (omega arith, shared-none _ _)
 
+-- a turn's lane is active
+low : (c : tie.In-loop Inv-loop μ-loop) → turned c .loop .lane < start (tabled (turned c)) .args .active
+low c = c .loop-test .taken
+
 run-lane-requires : tie.Need-run-lane-requires Inv-loop μ-loop
 run-lane-requires c κs =
-    let l = c .before .before .before .before .before .before .before in
-    let p = start l .pre in
-    let low : l .loop .lane < start l .args .active = c .before .before .before .before .before .before .loop-test .taken in
-    let most = p .1 .0 in
-    (p .0, (omega arith, (p .1 .1 .0, (p .1 .1 .1 .0, writable-kept (p .1 .1 .1 .1) (l .loop .inv .1 .sizes)))))
+    let t = lends c in
+    let l = turned t in
+    let p = start (tabled l) .pre in
+    (tabled l .power-table .ensures .0, (omega (arith, low t, p .actives), (p .limits, (p .readable, writable-kept (p .writable) (l .loop .inv .1 .sizes)))))
 
 add-lane : tie.Need-add-lane Inv-loop μ-loop
 add-lane c =
-    let low = c .before .before .before .before .before .before .before .before .before .before .before .before .before .before .before .before .before .before .before .loop-test .taken in
-    let most = start (head c) .pre .1 .0 in
-    let few = start (head c) .pre .1 .1 .0 .lanes in
-    omega arith
+    let t = lends (ran (ended c)) in
+    let p = start (tabled (turned t)) .pre in
+    omega (arith, low t, p .actives, p .limits .lanes)
 
 loop-less : tie.Need-loop-less Inv-loop μ-loop
-loop-less c = let low = c .before .before .before .before .before .before .before .before .before .before .before .before .before .before .before .before .before .before .before .loop-test .taken in omega arith
+loop-less c = omega (arith, low (lends (ran (ended c))))
 
 loop-again : tie.Need-loop-again Inv-loop μ-loop
 loop-again c =
-    let low = c .before .before .before .before .before .before .before .before .before .before .before .before .before .before .before .before .before .before .before .loop-test .taken in
-    (omega arith, shared-more (omega arith) (head c .loop .inv .1) (c .before .before .before .before .before .before .before .before .before .before .before .before .run-lane .ensures))
-
-same-length : tie.Need-same-length Inv-loop μ-loop
-same-length c = c .before .loop .inv .1 .sizes .output
-
-same-length-2 : tie.Need-same-length-2 Inv-loop μ-loop
-same-length-2 c = c .before .loop .inv .1 .sizes .work
-
-same-length-3 : tie.Need-same-length-3 Inv-loop μ-loop
-same-length-3 c = c .before .loop .inv .1 .sizes .pairs
-
-same-length-4 : tie.Need-same-length-4 Inv-loop μ-loop
-same-length-4 c = c .before .loop .inv .1 .sizes .fm
-
-same-length-5 : tie.Need-same-length-5 Inv-loop μ-loop
-same-length-5 c = c .before .loop .inv .1 .sizes .last
-
-same-length-6 : tie.Need-same-length-6 Inv-loop μ-loop
-same-length-6 c = c .before .loop .inv .1 .sizes .dec
+    let t = lends (ran (ended c)) in
+    (omega (arith, low t), shared-more (omega arith) (turned t .loop .inv .1) (ended c .run-lane .ensures))
 
 returns : tie.Need-returns Inv-loop μ-loop
 returns c =
     let l = c .before in
-    let o = start l in
-    let all : l .loop .lane ≡ o .args .active = omega arith in
+    let o = start (tabled l) in
+    let all : l .loop .lane ≡ o .args .active = omega (arith, c .loop-test .left, l .loop .inv .0) in
     subst (λ (k : ℕ). Shared (o .args .b) (o .args .r) (reads o) 0 k (writes o) (here l)) all (l .loop .inv .1)
 
 pub run-lanes-spec : {M : Type 1} → statement M
@@ -96,15 +94,16 @@ run-lanes-spec =
     (tie.spec
     Inv-loop
     μ-loop
+    (λ c κs. search needs)
     loop-holds
     run-lane-requires
     add-lane
     loop-less
     loop-again
-    same-length
-    same-length-2
-    same-length-3
-    same-length-4
-    same-length-5
-    same-length-6
+    (λ c. c .before .loop .inv .1 .sizes .output)
+    (λ c. c .before .loop .inv .1 .sizes .work)
+    (λ c. c .before .loop .inv .1 .sizes .pairs)
+    (λ c. c .before .loop .inv .1 .sizes .fm)
+    (λ c. c .before .loop .inv .1 .sizes .last)
+    (λ c. c .before .loop .inv .1 .sizes .dec)
     returns)

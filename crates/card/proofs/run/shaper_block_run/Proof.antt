@@ -1,25 +1,61 @@
--- `run::shaper_block_run` meets its contract. Assumes nothing.
-use mathlib.Core.Path.{_≡_, sym, _∙_}
+-- `run::shaper_block_run` meets its contract: one test, and what is accepted is run. Assumes nothing.
+use mathlib.Core.Path.{_≡_, refl, sym, _∙_}
+use Prim.Native.Nat.{ℕ}
 use borrow.Author.Needs.{needs}
 use lib.ListN.{length}
+use Rattle.halfband.specs.Floats.{designsOf}
+use Rattle.shaper.specs.declared.settings.Range.{Range}
 use Rattle.render.specs.declared.state.BlockSettings.{BlockSettings}
 use Rattle.render.specs.Lane.{Lent}
 use Rattle.share.specs.Share.{Buffers, buffers}
 use Rattle.render.specs.Promises.{lent}
+use Rattle.block.specs.declared.refusal.CallNumbers.{CallNumbers}
+use Rattle.block.specs.declared.refusal.ReadLengths.{ReadLengths}
 use Rattle.block.specs.Refusal.{blockRefusal}
-use Rattle.block.specs.Call.{readLengths, writeLengths}
+use Rattle.block.specs.Call.{callNumbers, readLengths, writeLengths}
 use Rattle.block.specs.Numbers.{settingsOf, rangeOf}
-use Rattle.block.proofs.RefusalLaws.{passed, whole-slices}
-use Rattle.block.proofs.CallLaws.{meets-refused, on-slices}
-use Rattle.block.proofs.NumberLaws.{same-number}
+use Rattle.block.proofs.RefusalLaws.{passed, by-parts, whole-slices, accepted}
+use Rattle.block.proofs.SharedLaws.{shared-by}
+use Rattle.block.proofs.CallLaws.{meets-refused, meets-shared}
 use Rattle.card.proofs.run.shaper_block_run.Statement.{statement}
 use Rattle.card.proofs.run.shaper_block_run.Tie as tie
 
--- the settings; what is lent to read, and to write
+-- ---- the places on the way: from each call back to the one before, and from the first to the entry
+
+abbrev start : tie.After-read-lengths → tie.Start
+start c = c .before .before .before .before .before .before .before .before .before .before .before .before .before .before .before .before .before .before .before .before
+
+abbrev measured : tie.After-write-lengths → tie.After-read-lengths
+measured c = c .before .before .before .before .before .before .before
+
+abbrev gathered : tie.After-refused → tie.After-write-lengths
+gathered c = c .before
+
+abbrev tested : tie.After-settings-of → tie.Else1
+tested c = c .before
+
+abbrev lends : tie.After-run-lanes-arg6 → tie.After-settings-of
+lends c = c .before .before .before .before .before .before
+
+abbrev called : tie.After-run-lanes → tie.After-run-lanes-arg6
+called c = c .before
+
+abbrev ran : tie.After-slice-known12 → tie.After-run-lanes
+ran c = c .before .before .before .before .before .before .before .before .before .before .before .before
+
+abbrev entry : tie.After-refused → tie.Start
+entry c = start (measured (gathered c))
+
+-- ---- the test
+
+-- the settings and the range; what is lent to read, and to write
 abbrev settings : tie.Start → BlockSettings
 settings c =
     let a = c .args in
     settingsOf (a .mode0) (a .mode1) (a .character0) (a .character1) (a .factor) (a .lanes) (a .frames) (a .rate) (a .count0) (a .count1) (a .count2) (a .coefs .now) (a .numbers .now)
+
+abbrev range : tie.Start → Range
+range c = rangeOf (c .args .first) (c .args .count)
 
 abbrev reads : tie.Start → Lent
 reads c =
@@ -27,41 +63,56 @@ reads c =
     lent (a .base0 .now) (a .base1 .now) (a .mod0 .now) (a .mod1 .now) (a .source0 .now) (a .source1 .now) (a .curve .now) (a .cycle .now) (a .words .now) (a .steps .now) (a .inner .now)
 
 abbrev writes : tie.Start → Buffers
-writes c = let a = c .args in buffers (a .output .now) (a .work .now) (a .pairs .now) (a .fm .now) (a .last .now) (a .state .now)
+writes c = let a = c .args in buffers (a .output .now) (a .work .now) (a .pairs .now) (a .fm .now) (a .last .now) (a .dec .now)
 
-abbrev start : tie.After-refused → tie.Start
-start c = c .before .before .before .before .before .before .before .before .before .before .before .before .before .before .before .before .before .before .before .before .before
+abbrev numbers : tie.Start → CallNumbers
+numbers c = callNumbers (settings c) (range c) (c .args .active)
 
--- the number that `refused` gives for zeros
-number : (c : tie.After-refused)
-    → let o = start c in
-    c .refused .result
-    ≡ blockRefusal (settings o) (rangeOf (o .args .first) (o .args .count)) (o .args .active)
-    (readLengths (length (o .args .coefs .now)) (length (o .args .numbers .now)) (reads o)) (writeLengths (writes o))
-number c =
-    let a = start c .args in
-    same-number (a .mode0) (a .mode1) (a .character0) (a .character1) (a .factor) (a .lanes) (a .frames) (a .rate) (a .count0) (a .count1) (a .count2) (a .coefs .now) (a .numbers .now) _ _ _ _ _ _
-    (c .before .bare-settings .ensures) (c .refused .ensures)
+abbrev lengths : tie.Start → ReadLengths
+lengths c = readLengths (length (c .args .coefs .now)) (length (c .args .numbers .now)) (reads c)
+
+abbrev number : tie.Start → ℕ
+number c = blockRefusal (numbers c) (lengths c) (writeLengths (writes c))
+
+-- the settings have the numbers that came one by one
+by-table : (c : tie.After-refused) → c .refused .result ≡ number (entry c)
+unfolding settingsOf designsOf
+by-table c =
+    let w = gathered c in
+    by-parts refl (measured w .read-lengths .ensures) (w .write-lengths .ensures) (c .refused .ensures)
+
+none : (c : tie.Else1) → number (entry (c .before)) ≡ 0
+none c = sym (by-table (c .before)) ∙ c .if1 .left
 
 returns : tie.Need-returns
 returns c =
-    let o = start (c .before) in
-    meets-refused (settings o) (rangeOf (o .args .first) (o .args .count)) (o .args .active) (length (o .args .coefs .now))
-    (length (o .args .numbers .now)) (reads o) (writes o) (c .before .refused .result) (number (c .before)) (c .if1 .taken)
+    let o = entry (c .before) in
+    meets-refused (settings o) (range o) (o .args .active) (length (o .args .coefs .now)) (length (o .args .numbers .now)) (reads o) (writes o) _
+    (by-table (c .before)) (c .if1 .taken)
+
+-- ---- the run
 
 settings-of-requires : tie.Need-settings-of-requires
 settings-of-requires c κs =
-    let o = start (c .before) in
-    let lines = passed (settings o) _ _ _ _ (sym (number (c .before)) ∙ c .if1 .left) in
-    whole-slices (settings o .shaper) _ _ (reads o) (lines .read)
+    let o = entry (c .before) in
+    whole-slices (numbers o) (lengths o) (passed (numbers o) (lengths o) _ (none c) .read)
+
+run-lanes-requires : tie.Need-run-lanes-requires
+run-lanes-requires c κs =
+    let s = lends c in
+    let e = tested s in
+    let o = entry (e .before) in
+    rw (s .settings-of .ensures)
+    (accepted (settings o) (range o) (o .args .active) (length (o .args .coefs .now)) (length (o .args .numbers .now)) (reads o) (writes o) (none e))
 
 returns-2 : tie.Need-returns-2
 returns-2 c =
-    let e = c .before .before .before .before .before .before .before .before .before .before .before .before .before .before .before .before .before .before .before .before in
-    let o = start (e .before) in
-    on-slices (settings o) (rangeOf (o .args .first) (o .args .count)) (o .args .active) (length (o .args .coefs .now))
-    (length (o .args .numbers .now)) (reads o) (writes o) (c .before .before .before .before .before .before .before .before .before .before .before .before .before .before .before .before .before .before .before .settings-of .ensures)
-    (sym (number (e .before)) ∙ e .if1 .left) (c .before .before .before .before .before .before .before .before .before .before .before .before .block-run .ensures)
+    let did = ran c in
+    let s = lends (called did) in
+    let e = tested s in
+    let o = entry (e .before) in
+    meets-shared (settings o) (range o) (o .args .active) (length (o .args .coefs .now)) (length (o .args .numbers .now)) (reads o) (writes o) (none e)
+    (shared-by (s .settings-of .ensures) (did .run-lanes .ensures))
 
 pub shaper-block-run-spec : {M : Type 1} → statement M
 shaper-block-run-spec =
@@ -69,8 +120,6 @@ shaper-block-run-spec =
     (tie.spec
     (λ c κs. search needs)
     (λ c κs. search needs)
-    returns
-    settings-of-requires
     (λ c κs. search needs)
     (λ c. search needs)
     (λ c. search needs)
@@ -78,4 +127,13 @@ shaper-block-run-spec =
     (λ c. search needs)
     (λ c. search needs)
     (λ c. search needs)
+    returns
+    settings-of-requires
+    run-lanes-requires
+    (λ c. ran c .run-lanes .ensures .sizes .output)
+    (λ c. ran c .run-lanes .ensures .sizes .work)
+    (λ c. ran c .run-lanes .ensures .sizes .pairs)
+    (λ c. ran c .run-lanes .ensures .sizes .fm)
+    (λ c. ran c .run-lanes .ensures .sizes .last)
+    (λ c. ran c .run-lanes .ensures .sizes .dec)
     returns-2)
