@@ -20,6 +20,9 @@ abbrev μ-loop : tie.MeasureT-loop
 abbrev start : tie.In-loop Inv-loop μ-loop → tie.Start Inv-loop μ-loop
 start c = c .before .before .before
 
+abbrev turn : tie.After-frame Inv-loop μ-loop → tie.In-loop Inv-loop μ-loop
+turn c = c .before .before .before .before .before .before
+
 -- the rows that a turn reads and writes are there
 row-in : (c : tie.In-loop Inv-loop μ-loop) (r : ℕ) → r < 2 * start c .args .frames
     → r * start c .args .n + start c .args .lane < length (c .before .loop .buffer)
@@ -33,16 +36,17 @@ early-in c = rw (c .place .ensures) (row-in (c .before) (2 * c .before .before .
 late-in : (c : tie.After-place2 Inv-loop μ-loop) → c .place2 .result < length (c .before .before .before .loop .buffer)
 late-in c = rw (c .place2 .ensures) (row-in (c .before .before) (2 * c .before .before .before .loop .k + 1) (omega arith))
 
-out-in : (c : tie.After-place3 Inv-loop μ-loop) → c .place3 .result < length (c .before .before .before .before .before .before .before .before .loop .buffer)
-out-in c = rw (c .place3 .ensures) (row-in (c .before .before .before .before .before .before .before) (c .before .before .before .before .before .before .before .before .loop .k) (omega arith))
+out-in : (c : tie.After-place3 Inv-loop μ-loop) → c .place3 .result < length (turn (c .before) .before .loop .buffer)
+out-in c = rw (c .place3 .ensures) (row-in (turn (c .before)) (turn (c .before) .before .loop .k) (omega arith))
 
 loop-again : tie.Need-loop-again Inv-loop μ-loop
 loop-again c =
-    let turn = c .before .before .before .before .before .before .before in (
+    let early : tie.After-place Inv-loop μ-loop = search in
+    let late : tie.After-place2 Inv-loop μ-loop = search in (
       omega arith,
       rw (c .place3 .ensures)
-          (run-more _ _ _ _ _ _ _ _ _ _ (start turn .pre .2) (rw (c .place3 .ensures) at (out-in c)) (turn .before .loop .inv .1)
-          (rw (c .before .before .before .before .before .before .place .ensures, c .before .before .before .before .before .place2 .ensures) at (c .before .frame .ensures))),
+          (run-more _ _ _ _ _ _ _ _ _ _ (start (turn (c .before)) .pre .2) (rw (c .place3 .ensures) at (out-in c)) (turn (c .before) .before .loop .inv .1)
+          (rw (early .place .ensures, late .place2 .ensures) at (c .before .frame .ensures))),
     )
 
 returns : tie.Need-returns Inv-loop μ-loop
@@ -66,7 +70,7 @@ run-spec =
     (λ c. early-in (c .before .before))
     (λ c. omega (arith, late-in (c .before)))
     (λ c. late-in (c .before .before))
-    (λ c κs. (start (c .before .before .before .before .before) .pre .0, c .before .before .before .before .before .before .loop .inv .1 .local))
+    (λ c κs. let t : tie.In-loop Inv-loop μ-loop = search in (start t .pre .0, t .before .loop .inv .1 .local))
     (λ c κs. search needs)
     (λ c. omega (arith, out-in c))
     out-in

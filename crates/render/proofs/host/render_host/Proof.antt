@@ -34,12 +34,12 @@ sub-less c = omega (arith, c .before .loop .inv .1, c .loop-test .taken)
 
 load-host-requires : tie.Need-load-host-requires Inv-loop μ-loop
 load-host-requires c κs =
-    let s = c .before .before .before .before .before .before .before .before .before .before .before .before .before in
+    let s : tie.Start Inv-loop μ-loop = search in
     (s .pre .0, (s .pre .1 .1 .1 .0, hosted {l = lends s} (s .pre .1 .1 .0 .spot) (s .pre .1 .1 .1 .1)))
 
 loop-holds : tie.Need-loop-holds Inv-loop μ-loop
 loop-holds c =
-    let s = c .before .before .before .before .before .before .before .before .before .before .before .before .before .before in
+    let s : tie.Start Inv-loop μ-loop = search in
     (omega arith, refl, refl, ran-none _ _ (lends s) _ _ _ _ _)
 
 frame-at-requires : tie.Need-frame-at-requires Inv-loop μ-loop

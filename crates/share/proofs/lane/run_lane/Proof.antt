@@ -17,7 +17,7 @@ lends c =
 abbrev had : tie.Start → Buffers
 had c = let a = c .args in buffers (now (a .output)) (now (a .work)) (now (a .pairs)) (now (a .fm)) (now (a .last)) (now (a .dec))
 
--- ---- `search` finds an earlier place by its type; from the last calls it comes as far back as the tables
+-- ---- `search` finds an earlier place by its type; from the last calls it comes no further back than the tables
 unfoldable start : tie.After-table → tie.Start
 start c = search
 

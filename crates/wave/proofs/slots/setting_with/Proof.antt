@@ -7,26 +7,51 @@ use Rattle.wave.proofs.Powers.{filter-power, curve-power}
 use Rattle.wave.proofs.slots.setting_with.Statement.{statement}
 use Rattle.wave.proofs.slots.setting_with.Tie as tie
 
+-- `search` finds an earlier place by its type
 returns : tie.Need-returns
 unfolding settingOf filterSetting if_then_else_ _>>=_
 returns c =
-    let filter = sym (c .before .before .is-filter .ensures) ∙ c .before .if2 .taken in
-    rw (← c .before .before .before .before .in-wave .ensures, c .before .before .before .if1 .taken, filter, c .damping .ensures, filter-power _ _ _ filter (c .before .before .before .before .before .pre))
+    let s : tie.Start = search in
+    let wave : tie.After-in-wave = search in
+    let inside : tie.Then1 = search in
+    let tested : tie.After-is-filter = search in
+    let filtered : tie.Then2 = search in
+    let filter = sym (tested .is-filter .ensures) ∙ filtered .if2 .taken in
+    rw (← wave .in-wave .ensures, inside .if1 .taken, filter, c .damping .ensures, filter-power _ _ _ filter (s .pre))
 
 returns-2 : tie.Need-returns-2
 unfolding settingOf if_then_else_
-returns-2 c = rw (← c .before .before .before .before .before .before .in-wave .ensures, c .before .before .before .before .before .if1 .taken, ← c .before .before .before .before .is-filter .ensures, c .before .before .before .if2 .left, ← c .before .before .is-modulated .ensures, c .before .if3 .taken, c .if4 .taken)
+returns-2 c =
+    let wave : tie.After-in-wave = search in
+    let inside : tie.Then1 = search in
+    let tested : tie.After-is-filter = search in
+    let unfiltered : tie.Else2 = search in
+    let asked : tie.After-is-modulated = search in
+    let modulated : tie.Then3 = search in
+    rw (← wave .in-wave .ensures, inside .if1 .taken, ← tested .is-filter .ensures, unfiltered .if2 .left, ← asked .is-modulated .ensures, modulated .if3 .taken, c .if4 .taken)
 
 returns-3 : tie.Need-returns-3
 unfolding settingOf if_then_else_
-returns-3 c = rw (← c .before .before .before .before .before .before .in-wave .ensures, c .before .before .before .before .before .if1 .taken, ← c .before .before .before .before .is-filter .ensures, c .before .before .before .if2 .left, ← c .before .before .is-modulated .ensures, c .before .if3 .taken, c .if4 .left)
+returns-3 c =
+    let wave : tie.After-in-wave = search in
+    let inside : tie.Then1 = search in
+    let tested : tie.After-is-filter = search in
+    let unfiltered : tie.Else2 = search in
+    let asked : tie.After-is-modulated = search in
+    let modulated : tie.Then3 = search in
+    rw (← wave .in-wave .ensures, inside .if1 .taken, ← tested .is-filter .ensures, unfiltered .if2 .left, ← asked .is-modulated .ensures, modulated .if3 .taken, c .if4 .left)
 
 returns-4 : tie.Need-returns-4
 unfolding settingOf curveSetting if_then_else_ _>>=_
 returns-4 c =
-    let filter = sym (c .before .before .before .is-filter .ensures) ∙ c .before .before .if2 .left in
+    let s : tie.Start = search in
+    let wave : tie.After-in-wave = search in
+    let inside : tie.Then1 = search in
+    let tested : tie.After-is-filter = search in
+    let unfiltered : tie.Else2 = search in
+    let filter = sym (tested .is-filter .ensures) ∙ unfiltered .if2 .left in
     let modulated = sym (c .before .is-modulated .ensures) ∙ c .if3 .left in
-    rw (← c .before .before .before .before .before .in-wave .ensures, c .before .before .before .before .if1 .taken, filter, modulated, curve-power _ _ _ filter modulated (c .before .before .before .before .before .before .pre))
+    rw (← wave .in-wave .ensures, inside .if1 .taken, filter, modulated, curve-power _ _ _ filter modulated (s .pre))
 
 returns-5 : tie.Need-returns-5
 unfolding settingOf if_then_else_
