@@ -5,6 +5,7 @@ use crate::answer::pattern;
 use crate::cells::Kind;
 use crate::cells::draw_cells;
 use crate::random::ModesRun;
+use crate::random::Turn;
 use crate::random::folded;
 use crate::random::next;
 use floats::nearest_u32;
@@ -345,20 +346,16 @@ pub fn folded_reads(h: u64, reads: LaneReads) -> u64 {
     folded(h, (reads.count % 0x1_0000_0000) as u32)
 }
 
-// Read lists of two modes.
-pub fn reads_hash(powers: &[u32; 257], table: &[f32; 1025], run: ModesRun) -> u64
+// A read list of two modes, put to the hash.
+pub fn reads_turn(powers: &[u32; 257], table: &[f32; 1025], run: ModesRun, t: Turn) -> Turn
     requires { ⌜ now powers ≡ entries ⌝ }
 {
-    let mode0 = run.mode0;
-    let mode1 = run.mode1;
-    let seed = run.seed;
-    let count = run.count;
-    let mut h: u64 = 0xcbf2_9ce4_8422_2325;
-    let mut s = seed;
-    for _ in 0..count {
-        let d = drawn(s);
-        s = d.inner;
-        h = folded_reads(h, reads(powers, table, mode0, mode1, case_of(seed, d)));
+    let held = t.held;
+    let d = drawn(t.s);
+    let list = reads(powers, table, run.mode0, run.mode1, case_of(run.seed, d));
+    Turn {
+        s: d.inner,
+        h: folded_reads(t.h, list),
+        held,
     }
-    h
 }

@@ -2,24 +2,26 @@
 use crate::answer::answer;
 use crate::cells::Kind;
 use crate::cells::draw_cells;
+use crate::waves::Held;
 ghost use mathlib.Core.Path.{_≡_};
 ghost use Prim.Native.Nat.{_*_, _%_, _^_};
 ghost use lib.Bits.{bitXor};
 ghost use Rattle.floats.specs.Exp2.{entries};
 
-// The answers of `op` to `count` draws of three words.
-pub struct Run {
-    pub op: u32,
-    pub seed: u32,
-    pub count: u32,
-}
-
-// `count` cases of two modes, fewer than 2^16, drawn from `seed`.
+// `count` cases drawn from `seed`, of two modes where these count.
 pub struct ModesRun {
     pub mode0: u32,
     pub mode1: u32,
     pub seed: u32,
     pub count: u32,
+}
+
+// A run between two cases: the generator's state, the hash, and what a sample takes over from the one
+// before it.
+pub struct Turn {
+    pub s: u32,
+    pub h: u64,
+    pub held: Held,
 }
 
 // The next state of a 32-bit xorshift generator.
@@ -64,32 +66,30 @@ fn rest_are_words(op: u32) -> bool {
     }
 }
 
-pub fn hash(powers: &[u32; 257], table: &[f32; 1025], run: Run) -> u64
+// The answer of `op` to three draws, put to the hash.
+pub fn answer_turn(powers: &[u32; 257], table: &[f32; 1025], op: u32, seed: u32, t: Turn) -> Turn
     requires { ⌜ now powers ≡ entries ⌝ }
 {
-    let op = run.op;
-    let seed = run.seed;
-    let count = run.count;
-    let mut h: u64 = 0xcbf2_9ce4_8422_2325;
-    let mut s = seed;
-    for _ in 0..count {
-        let a = next(s);
-        let b = next(a);
-        s = next(b);
-        let x = if first_is_word(op) { a } else { tamed(seed, a) };
-        let y = if rest_are_words(op) {
-            b
-        } else {
-            tamed(seed, b)
-        };
-        let z = if rest_are_words(op) {
-            s
-        } else {
-            tamed(seed, s)
-        };
-        h = folded(h, answer(powers, table, op, x, y, z));
+    let held = t.held;
+    let a = next(t.s);
+    let b = next(a);
+    let s = next(b);
+    let x = if first_is_word(op) { a } else { tamed(seed, a) };
+    let y = if rest_are_words(op) {
+        b
+    } else {
+        tamed(seed, b)
+    };
+    let z = if rest_are_words(op) {
+        s
+    } else {
+        tamed(seed, s)
+    };
+    Turn {
+        s,
+        h: folded(t.h, answer(powers, table, op, x, y, z)),
+        held,
     }
-    h
 }
 
 // The table that `lookup` reads: 1,025 numbers from 0 to 1, as an even seed's coefficients.

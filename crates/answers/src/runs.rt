@@ -1,12 +1,13 @@
 // A run of random cases as a line of the vectors has it: the operation and two words.
 use crate::decimations::DecimateRun;
 use crate::decimations::decimate_hash;
-use crate::phases::reads_hash;
+use crate::phases::reads_turn;
 use crate::random::ModesRun;
-use crate::random::Run;
-use crate::random::hash;
-use crate::waves::WaveRun;
-use crate::waves::wave_hash;
+use crate::random::Turn;
+use crate::random::answer_turn;
+use crate::waves::Held;
+use crate::waves::wave_turn;
+use wave::Svf;
 ghost use mathlib.Core.Path.{_≡_};
 ghost use Rattle.floats.specs.Exp2.{entries};
 
@@ -41,38 +42,57 @@ pub fn modes_run(a: u32, b: u32) -> ModesRun {
     }
 }
 
-// A run of read lists has two modes beside its count, one of a sequence of samples a mode and a flag.
+fn turned(powers: &[u32; 257], table: &[f32; 1025], op: u32, run: ModesRun, t: Turn) -> Turn
+    requires { ⌜ now powers ≡ entries ⌝ }
+{
+    match op {
+        0x29 => reads_turn(powers, table, run, t),
+        0x36 => wave_turn(powers, run, t),
+        _ => answer_turn(powers, table, op, run.seed, t),
+    }
+}
+
+fn hash(powers: &[u32; 257], table: &[f32; 1025], op: u32, run: ModesRun) -> u64
+    requires { ⌜ now powers ≡ entries ⌝ }
+{
+    let count = run.count;
+    let mut t = Turn {
+        s: run.seed,
+        h: 0xcbf2_9ce4_8422_2325,
+        held: Held {
+            percent: 0.0,
+            x: 0.0,
+            state: Svf { ic1: 0.0, ic2: 0.0 },
+        },
+    };
+    for _ in 0..count {
+        t = turned(powers, table, op, run, t);
+    }
+    t.h
+}
+
+// A run of read lists or of samples has two modes beside its count.
+fn run_of(op: u32, a: u32, b: u32) -> ModesRun {
+    match op {
+        0x29 | 0x36 => modes_run(a, b),
+        _ => ModesRun {
+            mode0: 0,
+            mode1: 0,
+            seed: a,
+            count: b,
+        },
+    }
+}
+
 pub fn ran(powers: &[u32; 257], table: &[f32; 1025], op: u32, a: u32, b: u32) -> Hashed
     requires { ⌜ now powers ≡ entries ⌝ }
 {
-    if op == 0x29 {
-        let run = modes_run(a, b);
-        Hashed {
-            count: run.count as u64,
-            hash: reads_hash(powers, table, run),
-        }
-    } else if op == 0x36 {
-        let run = WaveRun {
-            slot: b / 0x100_0000,
-            mode: b / 0x1_0000 % 0x100,
-            seed: a,
-            count: b % 0x1_0000,
-        };
-        Hashed {
-            count: run.count as u64,
-            hash: wave_hash(powers, run),
-        }
-    } else if op == 0x40 {
-        decimated(a, b)
-    } else {
-        let run = Run {
-            op,
-            seed: a,
-            count: b,
-        };
-        Hashed {
-            count: b as u64,
-            hash: hash(powers, table, run),
-        }
+    if op == 0x40 {
+        return decimated(a, b);
+    }
+    let run = run_of(op, a, b);
+    Hashed {
+        count: run.count as u64,
+        hash: hash(powers, table, op, run),
     }
 }

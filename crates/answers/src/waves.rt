@@ -4,6 +4,8 @@ use crate::answer::float;
 use crate::answer::pattern;
 use crate::phases::chosen;
 use crate::phases::fraction;
+use crate::random::ModesRun;
+use crate::random::Turn;
 use crate::random::folded;
 use crate::random::next;
 use floats::nearest_i32;
@@ -52,10 +54,10 @@ struct Case {
 }
 
 // What a case takes over from the one before it.
-struct Held {
-    percent: f32,
-    x: f32,
-    state: Svf,
+pub struct Held {
+    pub percent: f32,
+    pub x: f32,
+    pub state: Svf,
 }
 
 // Eight draws after the state `s`; the last is the state after them.
@@ -175,14 +177,6 @@ fn in_slot(powers: &[u32; 257], mode: u32, c: Case) -> Filtered
     wave::shape(powers, numbers, mode, setting, c.increment, c.x, c.state)
 }
 
-// A sequence of `count` samples drawn from `seed`, through a slot where `slot` is not 0.
-pub struct WaveRun {
-    pub slot: u32,
-    pub mode: u32,
-    pub seed: u32,
-    pub count: u32,
-}
-
 fn shaped(powers: &[u32; 257], slot: u32, mode: u32, c: Case) -> Filtered
     requires { ⌜ now powers ≡ entries ⌝ }
 {
@@ -200,32 +194,22 @@ fn folded_sample(h: u64, made: Filtered) -> u64 {
     folded(h, pattern(made.state.ic2))
 }
 
-pub fn wave_hash(powers: &[u32; 257], run: WaveRun) -> u64
+// A sample put to the hash: mode 0 of the run shapes it, through a slot where mode 1 is not 0.
+pub fn wave_turn(powers: &[u32; 257], run: ModesRun, t: Turn) -> Turn
     requires { ⌜ now powers ≡ entries ⌝ }
 {
-    let slot = run.slot;
-    let mode = run.mode;
-    let seed = run.seed;
-    let count = run.count;
-    let mut h: u64 = 0xcbf2_9ce4_8422_2325;
-    let mut s = seed;
-    let mut held = Held {
-        percent: 0.0,
-        x: 0.0,
-        state: Svf { ic1: 0.0, ic2: 0.0 },
+    let d = drawn(t.s);
+    let c = case_of(run.seed, d, t.held);
+    let made = shaped(powers, run.mode1, run.mode0, c);
+    let state = made.state;
+    let held = Held {
+        percent: c.percent,
+        x: c.x,
+        state,
     };
-    for _ in 0..count {
-        let d = drawn(s);
-        s = d.ic2;
-        let c = case_of(seed, d, held);
-        let made = shaped(powers, slot, mode, c);
-        let state = made.state;
-        held = Held {
-            percent: c.percent,
-            x: c.x,
-            state,
-        };
-        h = folded_sample(h, made);
+    Turn {
+        s: d.ic2,
+        h: folded_sample(t.h, made),
+        held,
     }
-    h
 }
