@@ -1,10 +1,11 @@
-// The calls about one lane: their buffers, drawn after a seed, and a call on them, remade from draws. A hash
-// takes what it answers and leaves.
+// Runs of the calls about one lane: their buffers and then their calls are remade from a seed, the calls
+// one after the other on the same buffers, and a hash takes what each answers and leaves.
 use crate::calls::Call;
 use crate::calls::Lent;
 use crate::calls::call_of;
 use crate::calls::lent_of;
 use crate::numbers::Draws;
+use crate::numbers::drawn;
 use crate::parts::part;
 use answers::answer::pattern;
 use answers::cells::Kind;
@@ -81,36 +82,6 @@ fn folded_list(h: u64, a: ReadsAnswer) -> u64 {
     folded_reads(h, reads)
 }
 
-// A call, put to the hash.
-pub fn reads_turn(
-    run: ModesRun,
-    d: Draws,
-    h: u64,
-    table: &[f32; 1025],
-    controls: &[f32; 1160],
-    inner: &[f32; 12],
-    fm: &mut [f32; 8],
-    last: &[f32; 4],
-) -> u64 {
-    let c = call_of(run, d);
-    let l = lent_of(d);
-    let a = reads_lane(c, l, table, controls, inner, fm, last);
-    folded_cells(folded_list(h, a), fm)
-}
-
-pub fn draw_reads(
-    seed: u32,
-    controls: &mut [f32; 1160],
-    inner: &mut [f32; 12],
-    fm: &mut [f32; 8],
-    last: &mut [f32; 4],
-) -> u32 {
-    let s = draw_cells(seed, Kind::Controls(584), seed, controls);
-    let s = draw_cells(seed, Kind::Stretch, s, inner);
-    let s = draw_cells(seed, Kind::Half, s, fm);
-    draw_cells(seed, Kind::Sample, s, last)
-}
-
 // The first `n` cells of `last` are lent.
 fn shape_lane(
     c: Call,
@@ -152,28 +123,84 @@ pub fn folded_value(h: u64, a: Valued) -> u64 {
     folded(h, pattern(a.value))
 }
 
-pub fn shape_turn(
+// Draws the buffers that the operation has; gives the state after them.
+fn draw(
+    op: u32,
+    seed: u32,
+    controls: &mut [f32; 1160],
+    inner: &mut [f32; 12],
+    pairs: &mut [f32; 16],
+    fm: &mut [f32; 8],
+    last: &mut [f32; 4],
+) -> u32 {
+    let s = draw_cells(seed, Kind::Controls(584), seed, controls);
+    if op == 0x50 {
+        let s = draw_cells(seed, Kind::Stretch, s, inner);
+        let s = draw_cells(seed, Kind::Half, s, fm);
+        return draw_cells(seed, Kind::Sample, s, last);
+    }
+    let s = draw_cells(seed, Kind::Sample, s, pairs);
+    draw_cells(seed, Kind::Sample, s, last)
+}
+
+// A call, put to the hash.
+fn turn(
+    op: u32,
     run: ModesRun,
     d: Draws,
     h: u64,
+    table: &[f32; 1025],
     controls: &[f32; 1160],
+    inner: &[f32; 12],
     pairs: &mut [f32; 16],
+    fm: &mut [f32; 8],
     last: &mut [f32; 4],
 ) -> u64 {
     let c = call_of(run, d);
     let l = lent_of(d);
+    if op == 0x50 {
+        let a = reads_lane(c, l, table, controls, inner, fm, last);
+        return folded_cells(folded_list(h, a), fm);
+    }
     let a = shape_lane(c, l, controls, pairs, last, l.last % 5);
     let h = folded_cells(folded_value(h, a), pairs);
     folded_cells(h, last)
 }
 
-pub fn draw_shapes(
-    seed: u32,
-    controls: &mut [f32; 1160],
-    pairs: &mut [f32; 16],
-    last: &mut [f32; 4],
-) -> u32 {
-    let s = draw_cells(seed, Kind::Controls(584), seed, controls);
-    let s = draw_cells(seed, Kind::Sample, s, pairs);
-    draw_cells(seed, Kind::Sample, s, last)
+// Read lists (0x50), or shaped samples.
+pub fn lane_hash(table: &[f32; 1025], op: u32, run: ModesRun) -> u64 {
+    let seed = run.seed;
+    let count = run.count % 0x1_0000;
+    let mut controls = [0.0; 1160];
+    let mut inner = [0.0; 12];
+    let mut pairs = [0.0; 16];
+    let mut fm = [0.0; 8];
+    let mut last = [0.0; 4];
+    let mut s = draw(
+        op,
+        seed,
+        &mut controls,
+        &mut inner,
+        &mut pairs,
+        &mut fm,
+        &mut last,
+    );
+    let mut h: u64 = 0xcbf2_9ce4_8422_2325;
+    for _ in 0..count {
+        let d = drawn(s);
+        s = d.x;
+        h = turn(
+            op,
+            run,
+            d,
+            h,
+            table,
+            &controls,
+            &inner,
+            &mut pairs,
+            &mut fm,
+            &mut last,
+        );
+    }
+    h
 }

@@ -1,15 +1,17 @@
-// The calls about a block's spans, made and hashed as those of singles.rt.
+// Runs of the calls about a block's spans, made and hashed as those of singles.rt.
 use crate::calls::Call;
 use crate::calls::Lent;
 use crate::calls::call_of;
 use crate::calls::lent_of;
 use crate::numbers::Draws;
 use crate::numbers::Inputs;
+use crate::numbers::drawn;
 use crate::parts::part;
 use crate::singles::folded_value;
 use answers::cells::Kind;
 use answers::cells::draw_cells;
 use answers::cells::folded_cells;
+use answers::phases::slope_table;
 use answers::random::ModesRun;
 use answers::random::folded;
 use limits::Answer;
@@ -60,35 +62,6 @@ fn folded_spans(h: u64, a: Answer, inner: &[f32], stretch: &[f32], add: &[f32]) 
     let h = folded_cells(h, inner);
     let h = folded_cells(h, stretch);
     folded_cells(h, add)
-}
-
-pub fn prepare_turn(
-    run: ModesRun,
-    d: Draws,
-    h: u64,
-    curve: &[f32; 1025],
-    controls: &[f32; 1160],
-    inner: &mut [f32; 12],
-    stretch: &mut [f32; 12],
-    add: &mut [f32; 12],
-) -> u64 {
-    let c = call_of(run, d);
-    let l = lent_of(d);
-    let a = prepare(c, l, curve, controls, inner, stretch, add, l.add % 13);
-    folded_spans(h, a, inner, stretch, add)
-}
-
-pub fn draw_prepares(
-    seed: u32,
-    controls: &mut [f32; 1160],
-    inner: &mut [f32; 12],
-    stretch: &mut [f32; 12],
-    add: &mut [f32; 12],
-) -> u32 {
-    let s = draw_cells(seed, Kind::Controls(584), seed, controls);
-    let s = draw_cells(seed, Kind::Stretch, s, inner);
-    let s = draw_cells(seed, Kind::Stretch, s, stretch);
-    draw_cells(seed, Kind::Slope, s, add)
 }
 
 // The spans of a block that is rendered afterwards, put to a new hash.
@@ -142,11 +115,71 @@ fn stretch(c: Call, l: Lent, stretch: &[f32; 12], add: &[f32; 12]) -> Valued {
     )
 }
 
-pub fn stretch_turn(run: ModesRun, d: Draws, h: u64, rows: &[f32; 12], add: &[f32; 12]) -> u64 {
-    folded_value(h, stretch(call_of(run, d), lent_of(d), rows, add))
-}
-
-pub fn draw_stretches(seed: u32, rows: &mut [f32; 12], add: &mut [f32; 12]) -> u32 {
+// Draws the buffers that the operation has; gives the state after them.
+fn draw(
+    op: u32,
+    seed: u32,
+    controls: &mut [f32; 1160],
+    inner: &mut [f32; 12],
+    rows: &mut [f32; 12],
+    add: &mut [f32; 12],
+) -> u32 {
+    if op == 0x52 {
+        let s = draw_cells(seed, Kind::Controls(584), seed, controls);
+        let s = draw_cells(seed, Kind::Stretch, s, inner);
+        let s = draw_cells(seed, Kind::Stretch, s, rows);
+        return draw_cells(seed, Kind::Slope, s, add);
+    }
     let s = draw_cells(seed, Kind::Stretch, seed, rows);
     draw_cells(seed, Kind::Slope, s, add)
+}
+
+// A call, put to the hash.
+fn turn(
+    op: u32,
+    run: ModesRun,
+    d: Draws,
+    h: u64,
+    curve: &[f32; 1025],
+    controls: &[f32; 1160],
+    inner: &mut [f32; 12],
+    rows: &mut [f32; 12],
+    add: &mut [f32; 12],
+) -> u64 {
+    let c = call_of(run, d);
+    let l = lent_of(d);
+    if op == 0x52 {
+        let a = prepare(c, l, curve, controls, inner, rows, add, l.add % 13);
+        return folded_spans(h, a, inner, rows, add);
+    }
+    folded_value(h, stretch(c, l, rows, add))
+}
+
+// Spans (0x52), or stretches.
+pub fn span_hash(op: u32, run: ModesRun) -> u64 {
+    let seed = run.seed;
+    let count = run.count % 0x1_0000;
+    let curve = slope_table(seed);
+    let mut controls = [0.0; 1160];
+    let mut inner = [0.0; 12];
+    let mut rows = [0.0; 12];
+    let mut add = [0.0; 12];
+    let mut s = draw(op, seed, &mut controls, &mut inner, &mut rows, &mut add);
+    let mut h: u64 = 0xcbf2_9ce4_8422_2325;
+    for _ in 0..count {
+        let d = drawn(s);
+        s = d.x;
+        h = turn(
+            op,
+            run,
+            d,
+            h,
+            &curve,
+            &controls,
+            &mut inner,
+            &mut rows,
+            &mut add,
+        );
+    }
+    h
 }
