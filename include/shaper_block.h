@@ -99,8 +99,8 @@ struct shaper_block {
     struct shaper_writable pairs, fm, last, state;
 };
 
-/* The phase step of a pitch, in words a rendered frame, cut off to a whole one. The pitch is less than rate * factor
- * hertz; below 0 the phase runs backwards. */
+/* The phase step of a pitch, in words a rendered frame, cut off to a whole one; rate and factor are the block's. The
+ * pitch is less than rate * factor hertz; below 0 the phase runs backwards. */
 static inline uint32_t shaper_step(double hertz, uint32_t rate, uint32_t factor)
 {
     return (uint32_t)(int64_t)(hertz / ((double)rate * factor) * 4294967296.0);

@@ -71,7 +71,8 @@ fn hash(powers: &[u32; 257], table: &[f32; 1025], op: u32, run: ModesRun) -> u64
     t.h
 }
 
-// A run of read lists or of samples has two modes beside its count.
+// A run of read lists has two modes beside its count; one of samples has a mode and, in the other's place,
+// whether it goes through a slot.
 fn run_of(op: u32, a: u32, b: u32) -> ModesRun {
     match op {
         0x29 | 0x36 => modes_run(a, b),

@@ -8,7 +8,7 @@ use Rattle.grid.proofs.EachLaws.{each-id, each-none, each-same, each-unique}
 use Rattle.share.specs.Share.{columnsOf}
 use Rattle.block.proofs.NoFrames.{share-still}
 use Rattle.block.specs.Call.{Call, Meets, refusalOf, lanesOf, inputs, shareOf}
-use Rattle.block.proofs.RefusalLaws.{call-taken}
+use Rattle.block.proofs.RefusalLaws.{call-lanes}
 use Rattle.block.proofs.Unique.{buffers-same}
 
 module _ (c : Call) (did : Meets c) where
@@ -18,7 +18,7 @@ module _ (c : Call) (did : Meets c) where
     where
       go : Dec (refusalOf c ≡ 0) → c .after ≡ c .before
       go (yes ok) =
-          buffers-same (lanesOf c) (call-taken c ok .some) (c .after) (c .before) (did .sizes) (each-unique (did .lanes ok) idle)
+          buffers-same (lanesOf c) (call-lanes c ok) (c .after) (c .before) (did .sizes) (each-unique (did .lanes ok) idle)
       go (no bad) = did .refused bad
 
   pub nothing : (c .range .count ≡ 0) ⊎ (c .active ≡ 0) → c .after ≡ c .before

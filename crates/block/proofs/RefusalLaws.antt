@@ -21,7 +21,7 @@ use Rattle.block.specs.declared.refusal.CallNumbers.{CallNumbers}
 use Rattle.block.specs.declared.refusal.ReadLengths.{ReadLengths}
 use Rattle.block.specs.declared.refusal.WriteLengths.{WriteLengths}
 use Rattle.block.specs.Refusal.{buffersShort, readsShort, writesShort, blockRefusal}
-use Rattle.block.specs.Call.{Call, callNumbers, readLengths, writeLengths, refusalOf, Taken}
+use Rattle.block.specs.Call.{Call, callNumbers, readLengths, writeLengths, refusalOf, lanesOf, Taken}
 
 -- ---- the lines
 
@@ -162,7 +162,6 @@ module _ (b : BlockSettings) (r : Range) (active : ℕ) where
             rate = good-rate (b .rate) (p .rates) .1;
             counts = three (λ (j : ℕ). designOf (b .designs) j .count ≤ 12) (counts .0) (counts .1) (counts .2);
           };
-          some = lanes .0;
           actives = lanes .2;
           readable = readable coefs numbers l (p .read);
           writable = writable w (p .written);
@@ -179,3 +178,6 @@ module _ (c : Call) (ok : refusalOf c ≡ 0) where
 
   pub call-taken : Taken (c .settings) (c .range) (c .active) (c .lent) (c .before)
   call-taken = taken-of (c .settings) (c .range) (c .active) (c .coefs) (c .numbers) _ _ call-passed
+
+  pub call-lanes : 1 ≤ lanesOf c
+  call-lanes = good-lanes (lanesOf c) (c .active) (call-passed .lanes) .0

@@ -12,7 +12,7 @@ use Rattle.grid.proofs.EachLaws.{each-unique}
 use Rattle.share.specs.Share.{Buffers, Columns, columnsOf}
 use Rattle.block.specs.declared.refusal.WriteLengths.{WriteLengths}
 use Rattle.block.specs.Call.{Call, Meets, writeLengths, refusalOf, lanesOf}
-use Rattle.block.proofs.RefusalLaws.{call-taken}
+use Rattle.block.proofs.RefusalLaws.{call-lanes}
 
 -- buffers of one length with the same columns are the same
 module _ (n : ℕ) (some : 0 < n) (x y : Buffers) (size : writeLengths x ≡ writeLengths y)
@@ -86,7 +86,7 @@ module _ (c d : Call) (asked : Asked c d) (one : Meets c) (did : Meets d) where
     where
       go : Dec (refusalOf c ≡ 0) → c .after ≡ d .after
       go (yes ok) =
-          buffers-same (lanesOf c) (call-taken c ok .some) (c .after) (d .after)
+          buffers-same (lanesOf c) (call-lanes c ok) (c .after) (d .after)
           (one .sizes ∙ sym (two .sizes)) (each-unique (one .lanes ok) (two .lanes (same-number ∙ ok)))
       go (no bad) = one .refused bad ∙ sym (two .refused (λ e. bad (sym same-number ∙ e)))
 

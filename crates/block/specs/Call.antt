@@ -78,10 +78,9 @@ unfoldable pub refusalOf : Call → ℕ
 refusalOf c =
     blockRefusal (callNumbers (c .settings) (c .range) (c .active)) (readLengths (c .coefs) (c .numbers) (c .lent)) (writeLengths (c .before))
 
--- what an accepted run has, and all that `run_lanes` asks for
+-- what `run_lanes` asks for: an accepted run has it
 pub record Taken (b : BlockSettings) (r : Range) (active : ℕ) (l : Lent) (w : Buffers) : Type 0 where
   pub limits : Limits b r
-  pub some : 1 ≤ b .shaper .lanes
   pub actives : active ≤ b .shaper .lanes
   pub readable : Readable (b .shaper) l
   pub writable : Writable (b .shaper) r w

@@ -1,29 +1,29 @@
 //! Sums of read lists of two slots.
 
+use super::blocks::mode;
 use super::clock::{INPUTS, Times, best};
 use super::markdown;
 use crate::probe::{self, Slots};
 use programs::{Generator, lookup_table};
-use ruled::api;
 use ruled::api::phase::{self, Slot};
 use ruled::osc::{self, LaneReads, Wave};
 use std::hint::black_box;
 
 /// Modes of slot 1 and slot 0: alone, and two that map.
-const PAIRS: [[u32; 2]; 13] = [
-    [0, 0],
-    [0, 1],
-    [0, 2],
-    [0, 8],
-    [0, 5],
-    [0, 9],
-    [0, 10],
-    [0, 11],
-    [0, 15],
-    [0, 16],
-    [1, 10],
-    [2, 8],
-    [15, 11],
+const PAIRS: [[&str; 2]; 13] = [
+    ["Off", "Off"],
+    ["Off", "Sync"],
+    ["Off", "PinchIn"],
+    ["Off", "Lean"],
+    ["Off", "PulseWidth"],
+    ["Off", "Flip"],
+    ["Off", "Mirror"],
+    ["Off", "RemapDrawn"],
+    ["Off", "Quantise"],
+    ["Off", "OddEven"],
+    ["Sync", "Mirror"],
+    ["PinchIn", "Lean"],
+    ["Quantise", "RemapDrawn"],
 ];
 
 /// The oracle's loop over the words: two slots, the list as it goes out, the sum of its reads.
@@ -44,7 +44,8 @@ fn oracle_run(curve: &[f32], cycle: &[f32], slots: Slots, half: f32, inner: f32,
 }
 
 /// The words go on by a step.
-fn measured([mode1, mode0]: [u32; 2]) -> (String, Times) {
+fn measured(names: [&str; 2]) -> (String, Times) {
+    let [mode1, mode0] = names.map(mode);
     let curve = lookup_table();
     let mut g = Generator(0x5eed);
     let cycle: Vec<f32> = (0..2048).map(|_| (g.draw() >> 8) as f32 / 8_388_608.0 - 1.0).collect();
@@ -69,7 +70,7 @@ fn measured([mode1, mode0]: [u32; 2]) -> (String, Times) {
             black_box(&other);
         },
     );
-    (format!("{:?}, {:?}", api::mode(mode1), api::mode(mode0)), times)
+    (names.join(", "), times)
 }
 
 pub fn print() {

@@ -8,6 +8,12 @@ use ruled::api;
 use ruled::api::wave::{self, Pair};
 use std::hint::black_box;
 
+const LOW_PASS: u32 = 17;
+const HIGH_PASS: u32 = 18;
+const SOFT_SATURATE: u32 = 32;
+const AM1: u32 = 58;
+const RM1: u32 = 64;
+
 /// The oracle's loop over the samples: what its run does to each in a slot of the wave side. The mode is
 /// read anew for each, as the library does, so that nothing is taken out of the loop.
 #[inline(never)]
@@ -17,12 +23,12 @@ fn oracle_shape(slot: &WaveSlot, xs: &[f32], out: &mut [f32], state: &mut [f32])
     for (to, &x) in out.iter_mut().zip(xs) {
         let mode = black_box(slot.mode);
         (*to, pair) = match mode {
-            17 | 18 => {
+            LOW_PASS | HIGH_PASS => {
                 let harmonic = wave::cutoff_harmonic(mode, a);
                 wave::filter(mode, harmonic, slot.increment, wave::damping(slot.character), x, pair)
             }
-            58 => (x * (1.0 - a * 0.5 * (1.0 - s)), pair),
-            64 => (x * (1.0 - a + a * s), pair),
+            AM1 => (x * (1.0 - a * 0.5 * (1.0 - s)), pair),
+            RM1 => (x * (1.0 - a + a * s), pair),
             _ => wave::distort_smooth(mode, a, x, pair),
         };
     }
@@ -55,5 +61,5 @@ fn measured(mode: u32) -> (String, Times) {
 pub fn print() {
     let title = "A slot of the wave stage over a sequence, the setting made anew for each sample, a sample; the\n\
         Rust's side of AM and Ring is the bare formula, without the run around it:";
-    markdown::times(title, "mode", (17..=32).chain([58, 64]).map(measured));
+    markdown::times(title, "mode", (LOW_PASS..=SOFT_SATURATE).chain([AM1, RM1]).map(measured));
 }
