@@ -13,4 +13,5 @@ pub use design::Design;
 pub use design::Designs;
 pub use design::card_designs;
 pub use design::designs_of;
+pub use refusal::numbers_refused;
 pub use refusal::refused;

@@ -15,8 +15,8 @@ ghost use Rattle.limits.specs.Lines.{firstOf, numberLines, badFactor, badLanes,
 ghost use Rattle.limits.specs.Lengths.{renderedLength, stateLength, shorter};
 ghost use Rattle.halfband.specs.Refusal.{refusal};
 
-// Lines 2 to 6.
-fn numbers_refused(
+// Lines 2, 3, 4 and 6, for a decimation's numbers and a plan's.
+pub fn numbers_refused(
     factor: u32,
     lanes: u32,
     active: u32,

@@ -1,0 +1,11 @@
+-- The laws of a plan: its section steps (CountLaws, StepLaws), its sizes (SizeLaws), its reads (ReadLaws, Reached), and those of one host
+-- frame (FrameLaws).
+pub mod SumLaws
+pub mod CountLaws
+pub mod StepLaws
+pub mod Passed
+pub mod SizeLaws
+pub mod ReadLaws
+pub mod Reached
+pub mod Planned
+pub mod FrameLaws
