@@ -109,6 +109,14 @@ static inline uint32_t shaper_step(double hertz, uint32_t rate, uint32_t factor)
 /* A buffer as the calls take it. */
 #define SHAPER_LENT(buffer) (buffer).cells, (buffer).length
 
+/* shaper_plan of the block, which needs no buffer yet: how long work, state, pairs, fm and last must be for the whole
+ * block in one range. */
+static inline struct shaper_needs shaper_plan_block(const struct shaper_block *b)
+{
+    return shaper_plan(b->factor, b->lanes, b->active, b->frames, shaper_card_counts[0], shaper_card_counts[1],
+        shaper_card_counts[2]);
+}
+
 /* shaper_prepare of the block: once, before its runs. */
 static inline struct shaper_answer shaper_prepare_block(const struct shaper_block *b)
 {
