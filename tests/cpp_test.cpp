@@ -57,5 +57,10 @@ int main()
         "the answer of a decimation");
     check(memcmp(output, buffer, sizeof output) == 0, "the decimated cycle");
     check(answered(shaper_run_block(&b, 1, FRAMES), SHAPER_BAD_FRAMES, 0), "a range past the end");
+    const shaper_needs p = shaper_plan_block(&b);
+    check(p.number == SHAPER_ACCEPTED && p.frames == FRAMES && p.work == SHAPER_WORK(FRAMES, FACTOR, LANES)
+            && p.state == SHAPER_STATE(LANES) && p.pairs == SHAPER_PAIRS(LANES) && p.fm == SHAPER_FM(LANES)
+            && p.last == SHAPER_LAST(LANES) && p.reads == 4 * FRAMES * FACTOR * LANES && p.steps == 10 * FRAMES * LANES,
+        "the plan of a block");
     return finish();
 }

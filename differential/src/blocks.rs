@@ -2,7 +2,7 @@
 //! prepared for them; a block's cuts against the whole; every refusal.
 
 mod cuts;
-mod drawn;
+pub mod drawn;
 mod prepared;
 
 use crate::lending::pair;

@@ -20,7 +20,32 @@ pub struct Valued {
     pub value: f32,
 }
 
+/// What a block needs: a refusal's number and zeros, or 0 and the block's frames, the floats of five buffers,
+/// the most reads and the section steps.
+#[repr(C)]
+#[derive(Clone, Copy, Debug, Default, PartialEq, Eq)]
+pub struct Needs {
+    pub number: u32,
+    pub frames: u32,
+    pub work: u32,
+    pub state: u32,
+    pub pairs: u32,
+    pub fm: u32,
+    pub last: u32,
+    pub reads: u32,
+    pub steps: u32,
+}
+
 unsafe extern "C" {
+    fn shaper_plan(
+        factor: u32,
+        lanes: u32,
+        active: u32,
+        frames: u32,
+        count0: u32,
+        count1: u32,
+        count2: u32,
+    ) -> Needs;
     fn shaper_decimate(
         factor: u32,
         lanes: u32,
@@ -135,6 +160,13 @@ unsafe extern "C" {
         state: *mut f32,
         state_len: usize,
     ) -> Answer;
+}
+
+/// What a block of these numbers needs.
+pub fn plan(shape: Shape, [count0, count1, count2]: [u32; 3]) -> Needs {
+    let Shape { factor, lanes, active, frames } = shape;
+    // SAFETY: there is no pointer.
+    unsafe { shaper_plan(factor, lanes, active, frames, count0, count1, count2) }
 }
 
 /// The decimation of `buffer` in place.

@@ -9,15 +9,15 @@ use programs::decimations::{Shape, cells, designs, numbers};
 use ruled::api::halfband::{self as oracle, Design};
 
 /// Cells of a state in a row of lanes.
-const STATE_ROWS: usize = 72;
+pub const STATE_ROWS: usize = 72;
 
-fn rows(shape: Shape) -> usize {
+pub fn rows(shape: Shape) -> usize {
     (shape.frames * shape.factor) as usize
 }
 
 /// Drawn numbers of a call. Most are small, so that there are many; some have up to 64 lanes or some
 /// hundred frames.
-fn shape(g: &mut Generator) -> Shape {
+pub fn shape(g: &mut Generator) -> Shape {
     let [kind, a, b, c] = [0; 4].map(|_: u32| g.draw() >> 8);
     let factor = 1 << (kind & 3);
     let lanes = 1 + a % if kind & 0x1c == 0 { 64 } else { 9 };
