@@ -1,5 +1,5 @@
-// What a block needs before it is made: how many floats its buffers have, how many reads it makes at most
-// and how many steps its half-band sections take.
+// What a block needs before it is made: how many floats work and what lanes carry must have, how many reads
+// it makes at most and how many steps its half-band sections take.
 pub mod needs;
 
 pub use needs::BlockNumbers;

@@ -119,7 +119,8 @@ fn needs(b: BlockNumbers) -> Plan
     }
 }
 
-// What a block of these numbers needs.
+// What a block of these numbers needs. `Planned` and `TurnedDown` (specs/Planned, proved in proofs/Planned)
+// have what the answer means for the block's runs.
 pub fn plan_of(b: BlockNumbers) -> Plan
     ensures { λ r. ⌜ r ≡ planOf b ⌝ }
 {
