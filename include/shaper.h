@@ -246,10 +246,11 @@ struct shaper_answer shaper_decimate(
     uint32_t count2, const float *coefs, size_t coefs_length, float *buffer, size_t buffer_length, float *state,
     size_t state_length);
 
-/* What a block needs that is made as one range: shaper_plan's answer. The five counts are the least that
- * shaper_block_run accepts for these buffers, by its lanes, active or not: where nothing else is wrong, the block runs
- * with all at least so large, and with any smaller it is SHAPER_SHORT_WRITE. A later version may add fields at the
- * end. */
+/* What a block needs that is made as one range: shaper_plan's answer. work, state, pairs, fm and last are the least
+ * lengths that shaper_block_run accepts for these buffers. They go by `lanes`, however many are active. Where nothing
+ * else is wrong, a run with all five at least so long is accepted, and one with any of them shorter is
+ * SHAPER_SHORT_WRITE. A later version may have more fields at the end: a host is compiled with the header of the
+ * library that it links. */
 struct shaper_needs {
     uint32_t number; /* enum shaper_refusal; any but SHAPER_ACCEPTED comes with zeros */
     uint32_t frames; /* the block's */
@@ -259,7 +260,7 @@ struct shaper_needs {
     uint32_t fm;     /* floats */
     uint32_t last;   /* floats */
     uint32_t reads;  /* the most reads of the cycle that the block makes, all active lanes together */
-    uint32_t steps;  /* the steps that the half-band sections take, all active lanes together */
+    uint32_t steps;  /* the half-band sections' steps, all active lanes together; not the length of a run's `steps` */
 };
 
 /* Plans a block before there is memory for it.
@@ -267,11 +268,12 @@ struct shaper_needs {
  *   factor, lanes, active, count0..count2   as in shaper_decimate
  *   frames                                  the block's host frames, 0 to SHAPER_MAX_FRAMES, all in one range
  *
- * Output and the buffers that are read are not in the plan; the length macros above have theirs. Whatever the modes and
- * numbers of a block, it makes no more reads than `reads`, and with SHAPER_ODD_EVEN in both slots it makes just so
- * many: 4 for each rendered frame of each active lane. A step is one section on one output frame of its stage; at
- * factor 1 there is none. With no frame or no active lane, reads and steps are 0 and the sizes are still what a run
- * asks for. */
+ * Turned down by SHAPER_BAD_FACTOR, SHAPER_BAD_LANES, SHAPER_BAD_FRAMES or SHAPER_BAD_DESIGN, tested in this order; a
+ * run's modes and rate are not asked for. Answers the block's frames. Output, the three spans and all that a run reads
+ * are not in the plan; the length macros above have theirs. Whatever else the block has, it makes no more reads than
+ * `reads`, and with SHAPER_ODD_EVEN in both slots it makes just so many: 4 for each rendered frame of each active lane.
+ * A step is one section on one output frame of its stage; at factor 1 there is none. With no frame or no active lane,
+ * reads and steps are 0 and the lengths are still what a run asks for. */
 struct shaper_needs shaper_plan(
     uint32_t factor, uint32_t lanes, uint32_t active, uint32_t frames, uint32_t count0, uint32_t count1,
     uint32_t count2);

@@ -1,5 +1,5 @@
--- The laws of a plan: its section steps (CountLaws, StepLaws), its sizes (SizeLaws), its reads (ReadLaws, Reached), and those of one host
--- frame (FrameLaws).
+-- The laws of a plan: its section steps (CountLaws, StepLaws), its sizes (SizeLaws), its reads (ReadLaws, Reached), what
+-- it says of runs (Planned), and one host frame (FrameLaws).
 pub mod SumLaws
 pub mod CountLaws
 pub mod StepLaws

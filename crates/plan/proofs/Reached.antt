@@ -1,4 +1,5 @@
--- The most reads are reached: with OddEven in both slots every list counts four, whatever else a block has. Assumes nothing.
+-- The most reads are reached: with OddEven in both slots every list counts four, whatever else a block has. Assumes
+-- nothing.
 use mathlib.Core.Path.{_≡_, refl, _∙_}
 use mathlib.Core.Bool.{false}
 use mathlib.Core.List.{List, [], _∷_}

@@ -1,5 +1,6 @@
--- The section steps of a decimation, counted by its own definition. `cascade` is over any kind of number; of this kind a section's output is
--- its last output and one. So from zeros, cell 2i + 1 of a block ends as how often section i of that stage has stepped. Definitions only.
+-- The section steps of a decimation, counted by its own definition. `cascade` is over any kind of number; of this kind a
+-- section's output is its last output plus one. So from zeros, cell 2i + 1 of a block ends as how often section i of
+-- that stage has stepped. Definitions only.
 use mathlib.Core.List.{[], _∷_}
 use Prim.Native.Nat.{ℕ, _+_, _*_}
 use lib.ListN.{getD}

@@ -61,7 +61,7 @@ oneFrame b = blockNumbers (b .factor) (b .lanes) (b .active) 1 (b .count0) (b .c
 unfoldable pub floatsOf : Plan → ℕ
 floatsOf p = p .work + p .state + p .pairs + p .fm + p .last
 
--- what numbers have that pass the lines
+-- bounds of the numbers that pass the lines
 pub record Within (b : BlockNumbers) : Type 0 where
   pub most-lanes : b .lanes ≤ 64
   pub most-active : b .active ≤ 64

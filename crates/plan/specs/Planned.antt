@@ -19,7 +19,8 @@ use Rattle.plan.specs.OneRange.{OneRange, Makes}
 use Rattle.plan.specs.Reads.{Most}
 use Rattle.plan.specs.Sizes.{Least}
 
--- the section steps of a run: its active lanes', each by the designs, stages and frames that `decimated` hands to `cascade`
+-- the section steps of a run: its active lanes', each by the designs, stages and frames that `decimated` hands to
+-- `cascade`
 unfoldable pub blockSteps : Call → ℕ
 blockSteps c =
     sum (c .active)
@@ -31,7 +32,8 @@ pub record Planned (b : BlockNumbers) (p : Plan) : Type 0 where
   pub reads : Most b (p .reads)
   pub steps : (c : Call) → Makes b c → blockSteps c ≡ p .steps
 
--- a refused one: its number and zeros, and a run of these numbers with good modes and a good rate is turned down with this number
+-- a refused one: its number and zeros, and a run of these numbers with good modes and a good rate is turned down with
+-- this number
 pub record TurnedDown (b : BlockNumbers) (p : Plan) : Type 0 where
   pub zeros : p ≡ nothing (planRefusal b)
   pub alike : (call : CallNumbers) (reads : ReadLengths) (writes : WriteLengths)

@@ -1,4 +1,5 @@
--- How many reads a block run makes, by its definition: a list for each rendered frame of each active lane. Definitions only.
+-- How many reads a block run makes, by its definition: a list for each rendered frame of each active lane.
+-- Definitions only.
 use mathlib.Core.Path.{_≡_}
 use Prim.Native.Nat.{ℕ, _+_, _/_, _%_, _≤_, max}
 use lib.ListN.{getD}
@@ -37,7 +38,8 @@ blockReads of c =
     sum (c .active)
     (λ lane. laneReads of (c .settings) (inputs c lane) (firstFrame (c .settings) (c .range)) (enters (columnsOf (lanesOf c) (c .before) lane)) (frameCount (c .settings) (c .range)))
 
--- No block of these numbers reads the cycle more often, and an accepted one that meets the run's contract reads it so often; by either count.
+-- No block of these numbers reads the cycle more often, and an accepted one that meets the run's contract reads it so
+-- often; by either count.
 pub record Most (b : BlockNumbers) (most : ℕ) : Type 0 where
   pub never : (c : Call) → Makes b c → (blockReads listReads c ≤ most) × (blockReads cycleReads c ≤ most)
   pub reaching : Call

@@ -20,7 +20,8 @@ pub record AsPlanned (p : Plan) (writes : WriteLengths) : Type 0 where
   pub fm : p .fm ≤ writes .fm
   pub last : p .last ≤ writes .last
 
--- a run that only these five buffers can turn down: its modes and rate, what it reads and its output are as the table asks
+-- a run that only these five buffers can turn down: its modes and rate, what it reads and its output are as the table
+-- asks
 pub record ByThese (call : CallNumbers) (reads : ReadLengths) (writes : WriteLengths) : Type 0 where
   pub modes : badModes (call .mode0) (call .mode1) ≡ false
   pub rate : badRate (call .rate) ≡ false

@@ -25,7 +25,7 @@ pub struct BlockNumbers {
 
 // The number of a refusal, 0 where there is none; the block's frames; the floats of work, decimator state,
 // filter pairs, FM carry and `last`; the most list reads; the half-band section steps of the active lanes.
-// Hosts hold this struct: a further size goes to its end.
+// include/shaper.h has the same fields in this order; a further size goes to the end.
 #[repr(C)]
 pub struct Plan {
     pub number: u32,

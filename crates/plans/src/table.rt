@@ -14,7 +14,7 @@ ghost use Rattle.plan.specs.Plan.{floatsOf};
 pub fn print_heading() {
     io::write_all(
         STDOUT_FILENO,
-        b"A block made as one range: work, decimator state, filter pairs, FM carry, last (without output and what is read)\n",
+        b"A block made as one range: work, decimator state, filter pairs, FM carry, last (not output, spans, what is read)\n",
     );
     io::write_all(
         STDOUT_FILENO,
@@ -85,7 +85,7 @@ fn print_planned(line: u64, p: LinePlan) {
     row::print(&below, m);
 }
 
-// A refusal's meaning, in the words of the header.
+// A refusal's meaning, in the header's words as far as a plan can meet them.
 fn put_meaning(row: &mut [u8; 120], number: u32) -> usize {
     match number {
         2 => row::left(row, 15, b": the factor is not 1, 2, 4 or 8\n"),

@@ -1,4 +1,5 @@
--- The laws of lines: a buffer and a `Line` after one byte more, and that a reader sees the text's lines. Assumes nothing.
+-- The laws of lines: a buffer and a `Line` after one byte more, and that a reader sees the text's lines. Assumes
+-- nothing.
 use mathlib.Core.Path.{_≡_, refl, ap, sym}
 use mathlib.Core.Bool.{Bool, true, false, cond, not, _&&_}
 use mathlib.Core.List.{List, [], _∷_, _++_}

@@ -1,4 +1,4 @@
--- `plans::main` is safe and ends: its turns are counted down. Assumes nothing.
+-- `plans::main` is safe and ends: its turns are counted down. Assumes what libc declares of read and write.
 use borrow.Author.Needs.{needs}
 use Rattle.plans.proofs.main.Statement.{statement}
 use Rattle.plans.proofs.main.Tie as tie

@@ -1,4 +1,4 @@
--- `plans::take_bytes` is safe and ends. Assumes nothing.
+-- `plans::take_bytes` is safe and ends. Assumes what libc declares of read and write.
 use Prim.Native.Nat.{_≤_, _-_}
 use lib.ListN.{length}
 use borrow.Author.Needs.{needs}

@@ -1,4 +1,5 @@
--- `text::decimal::seven_of` meets its contract: the scan of the bytes so far, and what a scan of all bytes finds. Assumes nothing.
+-- `text::decimal::seven_of` meets its contract: the scan of the bytes so far, and what a scan of all bytes finds.
+-- Assumes nothing.
 use mathlib.Core.Path.{_∙_, ap}
 use Prim.Native.Nat.{_-_, _≤_}
 use native.Mathlib.Omega.{arith}
