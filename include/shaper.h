@@ -28,7 +28,8 @@
 extern "C" {
 #endif
 
-/* The modes, by their numbers. docs/MODES.md says of each what its amount and its character do, and what it hears. */
+/* The modes, by their numbers. docs/MODES.md says of each what its amount and its character do, and what it hears;
+ * shaper_names.h has their names. */
 enum shaper_mode {
     SHAPER_OFF = 0,
 
@@ -70,6 +71,7 @@ enum shaper_mode {
 #define SHAPER_MAX_FACTOR 8    /* factors are 1, 2, 4 and this */
 #define SHAPER_MAX_LANES 64    /* lanes are 1 to this */
 #define SHAPER_MAX_FRAMES 4096 /* a block's host frames are 0 to this */
+#define SHAPER_POINTS 4096     /* a picture's points are 0 to this */
 #define SHAPER_MIN_RATE 8000   /* host rates are this to SHAPER_MAX_RATE, in whole hertz */
 #define SHAPER_MAX_RATE 192000
 #define SHAPER_DESIGNS 3    /* the decimator's */
@@ -111,7 +113,8 @@ enum shaper_refusal {
     SHAPER_BAD_MODE = 1,   /* a mode is above 69 */
     SHAPER_BAD_FACTOR = 2, /* the factor is not 1, 2, 4 or 8 */
     SHAPER_BAD_LANES = 3,  /* the lane count is not 1..64, the active lanes are more, or a single lane is not active */
-    SHAPER_BAD_FRAMES = 4, /* a block above 4,096 frames, a range past its end, or a single frame outside its range */
+    SHAPER_BAD_FRAMES = 4, /* a block above 4,096 frames, a range past its end, a single frame outside its range, or a
+                            * picture above 4,096 points */
     SHAPER_BAD_RATE = 5,   /* the host rate is not 8,000..192,000 */
     SHAPER_BAD_DESIGN = 6, /* a design's count is not 1..12 (of any of the three, whether the factor uses it or not) */
     SHAPER_SHORT_READ = 7, /* a buffer that is read is too short */
@@ -277,6 +280,27 @@ struct shaper_needs {
 struct shaper_needs shaper_plan(
     uint32_t factor, uint32_t lanes, uint32_t active, uint32_t frames, uint32_t count0, uint32_t count1,
     uint32_t count2);
+
+/* Draws one cycle of the shaped wave, for a panel: the cycle from phase 0 on, through both slots as their knobs stand,
+ * at as many points as the picture has.
+ *
+ *   mode0, mode1            the slots' modes (enum shaper_mode; shaper_names.h has their names)
+ *   character0, character1  the slots' characters, kept to 0..1
+ *   amount0, amount1        the slots' amounts in percent, kept to 0..100; NaN stays NaN
+ *   numbers, curve, cycle   read, as in shaper_block_run, whatever the modes
+ *   picture                 written, 0 to SHAPER_POINTS points: every number of the buffer is one, and what stood there
+ *                           does not matter
+ *
+ * Point i, counted from 0, lies at phase i / points. Edges are drawn sharp, half a point wide: a point on an edge lies
+ * between its two sides. Filters are drawn settled, after 15 cycles; their cutoff is at most 0.45 cycles a point, so
+ * that a picture of few points has less of the upper harmonics than the sound. A mode with a source draws as though the
+ * source were silent: it leaves the cycle as it is. Nothing of a lane or a block takes part, and a panel may draw while
+ * blocks run. Turned down by SHAPER_BAD_MODE, SHAPER_BAD_FRAMES or SHAPER_SHORT_READ, tested in this order, an empty
+ * picture as any other. Answers the points as its frames. */
+struct shaper_answer shaper_preview(
+    uint32_t mode0, uint32_t mode1, float character0, float character1, float amount0, float amount1,
+    const float *numbers, size_t numbers_length, const float *curve, size_t curve_length, const float *cycle,
+    size_t cycle_length, float *picture, size_t points);
 
 /* The card's three designs: their coefficients as `coefs` takes them, and their counts. */
 static const float shaper_card_coefs[SHAPER_COEFS] = {

@@ -1,6 +1,7 @@
 /* The headers from C++, without C's designated initialisers. Prints how many checks pass, "P of T". */
 #include "check.h"
 #include "shaper_block.h"
+#include "shaper_names.h"
 
 enum { RATE = 48000, FACTOR = 2, LANES = 2, FRAMES = 33 };
 
@@ -35,6 +36,30 @@ static shaper_block filled()
     return b;
 }
 
+static shaper_answer preview(uint32_t mode, size_t cycle_length, float *picture, size_t points)
+{
+    return shaper_preview(mode, SHAPER_OFF, 0.0f, 0.0f, 0.0f, 0.0f, shaper_numbers, SHAPER_NUMBERS, curve, SHAPER_CURVE,
+        cycle, cycle_length, picture, points);
+}
+
+static void check_picture()
+{
+    float picture[5] = {7.0f, 7.0f, 7.0f, 7.0f, 7.0f};
+    check(answered(preview(SHAPER_MODES, SHAPER_CYCLE, picture, 4), SHAPER_BAD_MODE, 0)
+            && answered(preview(SHAPER_OFF, SHAPER_CYCLE - 1, picture, 4), SHAPER_SHORT_READ, 0) && picture[0] == 7.0f,
+        "a picture turned down");
+    check(answered(preview(SHAPER_OFF, SHAPER_CYCLE, picture, 4), SHAPER_ACCEPTED, 4) && picture[0] == 0.0f
+            && picture[1] == 0.25f && picture[2] == 0.5f && picture[3] == 0.75f && picture[4] == 7.0f,
+        "the picture of a cycle");
+}
+
+static void check_names()
+{
+    check(strcmp(shaper_mode_name(SHAPER_LOW_PASS), "LowPass") == 0 && shaper_mode_name(SHAPER_MODES) == NULL,
+        "the name of a mode");
+    check(shaper_mode_of("lowpass") == SHAPER_LOW_PASS && shaper_mode_of("low") == SHAPER_MODES, "the mode of a name");
+}
+
 /* Off in both slots reads the cycle and decimates it. */
 int main()
 {
@@ -62,5 +87,7 @@ int main()
             && p.state == SHAPER_STATE(LANES) && p.pairs == SHAPER_PAIRS(LANES) && p.fm == SHAPER_FM(LANES)
             && p.last == SHAPER_LAST(LANES) && p.reads == 4 * FRAMES * FACTOR * LANES && p.steps == 10 * FRAMES * LANES,
         "the plan of a block");
+    check_picture();
+    check_names();
     return finish();
 }

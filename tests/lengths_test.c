@@ -105,6 +105,32 @@ static void check_decimate(struct sizes n)
         check(answered(decimate(n, SHAPER_COEFS, buffer - 1, cells), SHAPER_SHORT_WRITE, 0), "a sample too few");
 }
 
+static struct shaper_answer preview(size_t points, size_t numbers_length, size_t curve_length, size_t cycle_length)
+{
+    return shaper_preview(SHAPER_SYNC, SHAPER_LOW_PASS, 0.0f, 0.0f, 0.0f, 0.0f, numbers, numbers_length, numbers,
+        curve_length, numbers, cycle_length, output, points);
+}
+
+/* Every number of a picture is a point, so that none is too short. */
+static void check_picture(uint32_t points)
+{
+    const size_t sines = SHAPER_NUMBERS, curve = SHAPER_CURVE, cycle = SHAPER_CYCLE;
+    check(answered(preview(points, sines, curve, cycle), SHAPER_ACCEPTED, points), "a picture of exact lengths");
+    check(answered(preview(points, sines - 1, curve, cycle), SHAPER_SHORT_READ, 0), "a sine's number too few");
+    check(answered(preview(points, sines, curve - 1, cycle), SHAPER_SHORT_READ, 0), "a curve's value too few");
+    check(answered(preview(points, sines, curve, cycle - 1), SHAPER_SHORT_READ, 0), "a cycle's entry too few");
+}
+
+static void check_pictures(void)
+{
+    static const uint32_t points[] = {0, 1, 2, 255, SHAPER_CYCLE, SHAPER_POINTS - 1, SHAPER_POINTS};
+    for (unsigned i = 0; i < sizeof points / sizeof *points; i++)
+        check_picture(points[i]);
+    check(answered(preview(SHAPER_POINTS + 1, SHAPER_NUMBERS, SHAPER_CURVE, SHAPER_CYCLE), SHAPER_BAD_FRAMES, 0),
+        "a point too many");
+    check(answered(preview(SHAPER_POINTS + 1, 0, 0, 0), SHAPER_BAD_FRAMES, 0), "a point too many and no table");
+}
+
 static void check_sizes(struct sizes n)
 {
     check_block(n);
@@ -197,6 +223,7 @@ int main(void)
     check_ends();
     check_drawn(1000);
     check_limits();
+    check_pictures();
     check_once();
     return finish();
 }

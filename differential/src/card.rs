@@ -1,6 +1,7 @@
 //! The proved library's calls for C (crate `card`).
 
 use programs::decimations::Shape;
+use programs::pictures::Picture;
 use programs::singles::{Call, Slices};
 
 /// A refusal's number and 0, or 0 and the frames.
@@ -46,6 +47,22 @@ unsafe extern "C" {
         count1: u32,
         count2: u32,
     ) -> Needs;
+    fn shaper_preview(
+        mode0: u32,
+        mode1: u32,
+        character0: f32,
+        character1: f32,
+        amount0: f32,
+        amount1: f32,
+        numbers: *const f32,
+        numbers_len: usize,
+        curve: *const f32,
+        curve_len: usize,
+        cycle: *const f32,
+        cycle_len: usize,
+        picture: *mut f32,
+        points: usize,
+    ) -> Answer;
     fn shaper_decimate(
         factor: u32,
         lanes: u32,
@@ -167,6 +184,29 @@ pub fn plan(shape: Shape, [count0, count1, count2]: [u32; 3]) -> Needs {
     let Shape { factor, lanes, active, frames } = shape;
     // SAFETY: there is no pointer.
     unsafe { shaper_plan(factor, lanes, active, frames, count0, count1, count2) }
+}
+
+/// One shaped cycle, a point for each cell of `picture`.
+pub fn preview(call: &Picture, numbers: &[f32], curve: &[f32], cycle: &[f32], picture: &mut [f32]) -> Answer {
+    // SAFETY: the pointers and counts are the slices', of which the written one overlaps none.
+    unsafe {
+        shaper_preview(
+            call.modes[0],
+            call.modes[1],
+            call.characters[0],
+            call.characters[1],
+            call.amounts[0],
+            call.amounts[1],
+            numbers.as_ptr(),
+            numbers.len(),
+            curve.as_ptr(),
+            curve.len(),
+            cycle.as_ptr(),
+            cycle.len(),
+            picture.as_mut_ptr(),
+            picture.len(),
+        )
+    }
 }
 
 /// The decimation of `buffer` in place.

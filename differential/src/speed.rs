@@ -9,16 +9,18 @@ mod lists;
 mod markdown;
 mod modes;
 mod pairs;
+mod pictures;
 mod ranges;
 mod shapes;
 mod summary;
 
 /// The parts by their names; those that sum rows up print every one of them on demand.
-const PARTS: [(&str, fn(bool)); 7] = [
+const PARTS: [(&str, fn(bool)); 8] = [
     ("leaves", |_| leaves::print()),
     ("lists", |_| lists::print()),
     ("shapes", |_| shapes::print()),
     ("decimations", |_| decimations::print()),
+    ("pictures", |_| pictures::print()),
     ("pairs", pairs::print),
     ("modes", modes::print),
     ("ranges", ranges::print),

@@ -108,6 +108,55 @@ pub fn fm_exponential(s: f32) -> f32 {
     super::fm_exponential(s)
 }
 
+/// The crate's own shapers and table, made of what a picture is lent.
+pub struct Panel {
+    shapers: Shapers,
+    table: Table,
+}
+
+impl Panel {
+    /// Amounts are in percent.
+    #[must_use]
+    pub fn new(
+        modes: [u32; SLOTS],
+        characters: [f32; SLOTS],
+        amounts: [f32; SLOTS],
+        lent: &[f32],
+        cycle: &[f32],
+    ) -> Self {
+        Self {
+            shapers: Shapers {
+                slots: std::array::from_fn(|i| Slot {
+                    mode: mode(modes[i]),
+                    amount: amounts[i],
+                    character: characters[i],
+                }),
+                curve: curve::lent(lent),
+                oversampling: 1,
+            },
+            table: Table::lent(cycle),
+        }
+    }
+
+    /// [`Shapers::preview`]: the part of [`preview`] that a clock should
+    /// measure.
+    pub fn preview(&self, picture: &mut [f32]) {
+        self.shapers.preview(&self.table, 0, picture);
+    }
+}
+
+/// [`Shapers::preview`] over a lent curve and cycle.
+pub fn preview(
+    modes: [u32; SLOTS],
+    characters: [f32; SLOTS],
+    amounts: [f32; SLOTS],
+    lent: &[f32],
+    cycle: &[f32],
+    picture: &mut [f32],
+) {
+    Panel::new(modes, characters, amounts, lent, cycle).preview(picture);
+}
+
 /// The numbers of a call that belong to no lane, but for the designs and
 /// the range.
 #[derive(Clone, Copy, Debug)]

@@ -13,4 +13,5 @@ pub use refusal::write_lengths;
 pub use render::BlockSettings;
 pub use run::block_run;
 pub use run::run_lanes;
+pub use settings::numbers_of;
 pub use settings::settings_of;

@@ -11,7 +11,7 @@ ghost use Rattle.limits.specs.Lengths.{coefsLength, numbersLength};
 ghost use Rattle.block.specs.Numbers.{numbersOf, settingsOf};
 
 // The sine's five numbers, then the arctangent's eight.
-fn numbers_of(xs: &[f32]) -> Numbers
+pub fn numbers_of(xs: &[f32]) -> Numbers
     requires { ⌜ numbersLength ≤ length (now xs) ⌝ }
     ensures { λ r. ⌜ r ≡ numbersOf (now (xs .entry)) ⌝ }
 {

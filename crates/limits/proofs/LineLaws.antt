@@ -6,7 +6,7 @@ use Prim.Native.Nat.{ℕ, suc, _+_, _*_, _≤_, _<_}
 use native.Mathlib.Omega.{arith}
 use lib.Dec.{ltb, eqb}
 use borrow.Author.Tests.{ltb-true, ltb-false, le-ltb, eqb-true, not-false}
-use Rattle.limits.specs.Lines.{firstOf, numberLines, badFactor, badLanes, badLane, badFrames, badRange, badFrame, badAsked, badRate, badCount, badCounts}
+use Rattle.limits.specs.Lines.{firstOf, numberLines, badFactor, badLanes, badLane, badFrames, badRange, badFrame, badAsked, badPoints, badRate, badCount, badCounts}
 
 -- ---- any table
 
@@ -136,6 +136,9 @@ good-asked factor frames first count from asked e =
     let p = or-false (badFrame factor frames first count from) (ltb (count * factor) (from + asked)) e in
     let frame = good-frame factor frames first count from (p .0) in
     (frame .0, frame .1, frame .2, ltb-false (count * factor) (from + asked) (p .1))
+
+pub good-points : (points : ℕ) → badPoints points ≡ false → points ≤ 4096
+good-points points e = ltb-false 4096 points e
 
 pub good-rate : (rate : ℕ) → badRate rate ≡ false → (8000 ≤ rate) × (rate ≤ 192000)
 good-rate rate e =

@@ -46,6 +46,10 @@ badFrame factor frames first count frame = badRange frames first count || not (l
 abbrev pub badAsked : ℕ → ℕ → ℕ → ℕ → ℕ → ℕ → Bool
 badAsked factor frames first count from asked = badFrame factor frames first count from || ltb (count * factor) (from + asked)
 
+-- 4: or a picture above 4,096 points
+abbrev pub badPoints : ℕ → Bool
+badPoints points = ltb 4096 points
+
 -- 5: host rate not 8,000..192,000 whole hertz
 abbrev pub badRate : ℕ → Bool
 badRate rate = ltb rate 8000 || ltb 192000 rate

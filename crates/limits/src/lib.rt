@@ -35,5 +35,6 @@ pub use lines::lane_bad;
 pub use lines::lanes_bad;
 pub use lines::mode_bad;
 pub use lines::modes_bad;
+pub use lines::points_bad;
 pub use lines::range_bad;
 pub use lines::rate_bad;

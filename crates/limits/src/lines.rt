@@ -1,7 +1,7 @@
 // Lines 1 to 6 of the table: tests of a call's numbers.
 ghost use mathlib.Core.Path.{_≡_};
 ghost use Prim.Native.Nat.{_*_};
-ghost use Rattle.limits.specs.Lines.{firstOf, numberLines, badMode, badModes, badFactor, badLanes, badLane, badFrames, badRange, badFrame, badAsked, badRate, badCount, badCounts};
+ghost use Rattle.limits.specs.Lines.{firstOf, numberLines, badMode, badModes, badFactor, badLanes, badLane, badFrames, badRange, badFrame, badAsked, badPoints, badRate, badCount, badCounts};
 
 // Line 1, for a call with one mode.
 pub fn mode_bad(mode: u32) -> bool
@@ -72,6 +72,13 @@ pub fn asked_bad(factor: u32, frames: u32, first: u32, count: u32, from: u32, as
 {
     frame_bad(factor, frames, first, count, from)
         | (rendered(factor, count) < from as u64 + asked as u64)
+}
+
+// Line 4, for a picture, whose points are as many as its buffer has numbers.
+pub fn points_bad(points: usize) -> bool
+    ensures { λ r. ⌜ r ≡ badPoints points ⌝ }
+{
+    4096 < points
 }
 
 // Line 5.

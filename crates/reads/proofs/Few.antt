@@ -4,9 +4,8 @@ use native.Mathlib.Omega.{arith}
 use mathlib.Core.Bool.{Bool, true, false, cond}
 use lib.Dec.{T, ltb, ltb→lt}
 use lib.Ieee.{Float}
-use Rattle.floats.specs.Steps.{_>>=_, if_then_else_}
 use Rattle.reads.specs.declared.lists.ReadList.{ReadList}
-use Rattle.reads.specs.Reads.{startOf, weightedOf, pushOf, pushPair, shiftOf, outgoingOf}
+use Rattle.reads.specs.Reads.{startOf, weightedOf, pushOf, shiftOf, outgoingOf}
 
 -- a record, so that the list stands in its type whole
 pub record Few (r : ReadList) : Type 0 where
@@ -23,15 +22,6 @@ push-few r w g h = either Few (ltb (r .count) 4) _ r (λ t. let l = ltb→lt (r 
 pub weighted-few : (r : ReadList) → Few r → Few (weightedOf r)
 unfolding weightedOf
 weighted-few r h = record { few = h .few }
-
-if-few : (b : Bool) (x y : ReadList) → Few x → Few y → Few (if b then x else y)
-unfolding if_then_else_
-if-few true x y p q = p
-if-few false x y p q = q
-
-pub pair-few : (r : ReadList) (a : ℕ) (wa : Float) (b : ℕ) (g : Float) → Few r → Few (pushPair r a wa b g)
-unfolding pushPair _>>=_
-pair-few r a wa b g h = let one = push-few (weightedOf r) _ _ (weighted-few r h) in if-few _ _ _ (push-few _ _ _ one) one
 
 pub shift-few : (r : ReadList) (o : ℕ) → Few r → Few (shiftOf r o)
 unfolding shiftOf

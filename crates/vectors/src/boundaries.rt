@@ -1,5 +1,6 @@
-// Document 01's boundary values: mode 69 passes, 70 is 1; 64 lanes pass, 65 is 3; 4,096 frames pass,
-// 4,097 is 4; a curve of 1,025 entries passes, one of 1,024 is 7. The calls are asked with lengths alone.
+// Document 01's boundary values: mode 69 passes, 70 is 1; 64 lanes pass, 65 is 3; 4,096 frames, or points of
+// a picture, pass, 4,097 is 4; a curve of 1,025 entries passes, one of 1,024 is 7. The calls are asked with
+// lengths alone.
 use block::CallNumbers;
 use block::ReadLengths;
 use block::WriteLengths;
@@ -113,6 +114,11 @@ fn decimate_number(b: Boundary) -> u32 {
     halfband::refused(8, b.lanes, b.lanes, b.frames, 12, 12, 12, LONG, LONG, LONG)
 }
 
+// Of a picture of as many points as the others have frames.
+fn picture_number(b: Boundary) -> u32 {
+    preview::refused(b.mode, b.mode, b.frames as usize, b.entries, LONG, LONG)
+}
+
 fn curve_number(b: Boundary) -> u32 {
     let whole = [0.0f32; 1025];
     let short = [0.0f32; 1024];
@@ -133,11 +139,14 @@ fn among(number: u32, first: u32, last: u32) -> u32 {
     }
 }
 
+// A picture has no lanes.
 fn kept(b: Boundary) -> bool {
+    let drawn = if b.number == 3 { 0 } else { b.number };
     (prepare_number(b) == b.number)
         & (run_number(b) == b.number)
         & (decimate_number(b) == among(b.number, 2, 6))
         & (curve_number(b) == among(b.number, 7, 7))
+        & (picture_number(b) == drawn)
 }
 
 // How many of them are kept.

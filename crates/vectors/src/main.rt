@@ -1,7 +1,7 @@
 // Replays the oracle's stored answers (stdin, a line each) and prints how many of them the library
 // gives, and of document 01's boundary values how many are kept: "P of T" in all. The lines are those of
-// `leaf_vectors`, `phase_vectors`, `wave_vectors`, `decimate_vectors`, `single_vectors` and
-// `block_vectors` of oracle/programs, which has their format.
+// `leaf_vectors`, `phase_vectors`, `wave_vectors`, `decimate_vectors`, `single_vectors`, `block_vectors` and
+// `picture_vectors` of oracle/programs, which has their format.
 mod blocks;
 mod boundaries;
 mod settings;
@@ -15,10 +15,12 @@ use answers::runs::ran;
 use blocks::block_hash;
 use boundaries::BOUNDARIES;
 use boundaries::boundaries_kept;
+use call_answers::block_cells::curve_of;
 use call_answers::runs::calls_hash;
 use floats::POWERS;
 use libc::STDIN_FILENO;
 use libc::STDOUT_FILENO;
+use picture_answers::pictures::picture_hash;
 ghost use mathlib.Core.Path.{_≡_};
 ghost use Rattle.floats.specs.Exp2.{entries};
 
@@ -30,15 +32,19 @@ struct Tally {
     total: u64,
 }
 
-// Calls about one lane, about a block's spans or about its ranges.
+// Calls about one lane or about a block's spans, about a block's ranges, or pictures.
+fn called_hash(table: &[f32; 1025], op: u32, run: ModesRun) -> u64 {
+    match op {
+        0x60 => block_hash(table, run),
+        0x61 => picture_hash(&curve_of(table, run.seed), run),
+        _ => calls_hash(table, op, run),
+    }
+}
+
 fn called(table: &[f32; 1025], op: u32, run: ModesRun) -> Hashed {
     Hashed {
         count: run.count as u64,
-        hash: if op < 0x54 {
-            calls_hash(table, op, run)
-        } else {
-            block_hash(table, run)
-        },
+        hash: called_hash(table, op, run),
     }
 }
 

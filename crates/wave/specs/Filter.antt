@@ -42,11 +42,15 @@ dampingOf character = do
   kept ← clampOf character 0f 1f
   sqrt2 ⊖ dampingSpan ⊗ kept
 
--- k is the damping; the increment is what the note's phase moves by, in cycles a sample
-unfoldable pub filterOf : List Float → ℕ → Float → Float → Float → Float → Svf → Filtered
-filterOf sk mode harmonic increment k x state = do
+-- the tangent of the cutoff's angle: what of a filter goes by no sample; the increment is what the note's phase moves by, in cycles a sample
+unfoldable pub tangentOf : List Float → Float → Float → Float
+tangentOf sk harmonic increment = do
   cutoff ← minOf (harmonic ⊗ increment) cutoffMax
-  g ← tanOf sk (cutoff ⊗ pi)
+  tanOf sk (cutoff ⊗ pi)
+
+-- the rest of it, from the tangent g on; k is the damping
+unfoldable pub filterWith : ℕ → Float → Float → Float → Svf → Filtered
+filterWith mode g k x state = do
   a1 ← 1f ⊘ mulAdd g (g ⊕ k) 1f
   a2 ← g ⊗ a1
   a3 ← g ⊗ a2
@@ -55,3 +59,8 @@ filterOf sk mode harmonic increment k x state = do
   v2 ← state .ic2 ⊕ mulAdd a2 (state .ic1) (a3 ⊗ v3)
   y ← caseOf mode ((numberOf LowPass ⇒ v2) ∷ []) (x ⊖ k ⊗ v1 ⊖ v2)
   record { y = y; state = record { ic1 = 2f ⊗ v1 ⊖ state .ic1; ic2 = 2f ⊗ v2 ⊖ state .ic2 } }
+
+unfoldable pub filterOf : List Float → ℕ → Float → Float → Float → Float → Svf → Filtered
+filterOf sk mode harmonic increment k x state = do
+  g ← tangentOf sk harmonic increment
+  filterWith mode g k x state

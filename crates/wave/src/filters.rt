@@ -8,7 +8,7 @@ use lanes::tan;
 use modes::numbers::LOW_PASS;
 ghost use mathlib.Core.Path.{_≡_};
 ghost use Rattle.floats.specs.Exp2.{entries};
-ghost use Rattle.wave.specs.Filter.{cutoffHarmonic, dampingOf, filterOf};
+ghost use Rattle.wave.specs.Filter.{cutoffHarmonic, dampingOf, tangentOf, filterWith, filterOf};
 
 const PI: f32 = 3.1415927;
 
@@ -48,21 +48,20 @@ pub fn damping(character: f32) -> f32
     SQRT_2 - 1.2 * clamp(character, 0.0, 1.0)
 }
 
-// Filters `x` through `state`, giving the low-pass or the high-pass output: cutoff `harmonic` of a note
-// whose phase moves `increment` cycles a sample, damping `k`.
-pub fn filter(
-    numbers: Numbers,
-    mode: u32,
-    harmonic: f32,
-    increment: f32,
-    k: f32,
-    x: f32,
-    state: Svf,
-) -> Filtered
-    ensures { λ r. ⌜ r ≡ filterOf (numbers .sin) mode harmonic increment k x state ⌝ }
+// The tangent of a filter's cutoff, which is `harmonic` of a note whose phase moves `increment` cycles a
+// sample. It goes by no sample, so that a filter that stays works it out once.
+pub fn tangent(numbers: Numbers, harmonic: f32, increment: f32) -> f32
+    ensures { λ r. ⌜ r ≡ tangentOf (numbers .sin) harmonic increment ⌝ }
 {
     let cutoff = min(harmonic * increment, 0.45);
-    let g = tan(numbers, cutoff * PI);
+    tan(numbers, cutoff * PI)
+}
+
+// Filters `x` through `state`, giving the low-pass or the high-pass output: the cutoff's tangent is `g`,
+// the damping `k`.
+pub fn filter_with(mode: u32, g: f32, k: f32, x: f32, state: Svf) -> Filtered
+    ensures { λ r. ⌜ r ≡ filterWith mode g k x state ⌝ }
+{
     let a1 = 1.0 / (g * (g + k) + 1.0);
     let a2 = g * a1;
     let a3 = g * a2;
@@ -80,4 +79,20 @@ pub fn filter(
             state: next,
         },
     }
+}
+
+// The same, with the tangent worked out.
+pub fn filter(
+    numbers: Numbers,
+    mode: u32,
+    harmonic: f32,
+    increment: f32,
+    k: f32,
+    x: f32,
+    state: Svf,
+) -> Filtered
+    ensures { λ r. ⌜ r ≡ filterOf (numbers .sin) mode harmonic increment k x state ⌝ }
+{
+    let g = tangent(numbers, harmonic, increment);
+    filter_with(mode, g, k, x, state)
 }

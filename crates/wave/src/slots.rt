@@ -35,7 +35,7 @@ pub fn in_wave(mode: u32) -> bool
     }
 }
 
-fn is_filter(mode: u32) -> bool
+pub fn is_filter(mode: u32) -> bool
     ensures { λ r. ⌜ r ≡ isFilter mode ⌝ }
 {
     match mode {

@@ -53,13 +53,18 @@ pub fn rows(generator: &mut Generator, cells: usize, lanes: usize, is_wild: bool
     [words, steps]
 }
 
+/// A run's curve.
+pub(crate) fn curve(seed: u32) -> Vec<f32> {
+    match seed >> 4 & 1 {
+        0 => lookup_table(),
+        _ => slope_table(seed),
+    }
+}
+
 /// A run's buffers, each as long as the largest block asks for.
 fn buffers(block: &Call, coefs: &[f32], seed: u32, generator: &mut Generator) -> Buffers {
     let is_wild = seed & 1 == 1;
-    let curve = match seed >> 4 & 1 {
-        0 => lookup_table(),
-        _ => slope_table(seed),
-    };
+    let curve = curve(seed);
     let angles = angles();
     let largest = Call {
         factor: 8,

@@ -1,10 +1,12 @@
 //! What the vector programs share: the generator, the hash, the leaves
 //! by operation code, and the cases of the phase side, the wave side, the
-//! decimator, the single calls and the block run.
+//! decimator, the single calls, the block run and the pictures.
 
 pub mod blocks;
 pub mod decimations;
+pub mod pairs;
 pub mod phases;
+pub mod pictures;
 pub mod singles;
 pub mod waves;
 

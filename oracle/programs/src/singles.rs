@@ -10,7 +10,7 @@ use crate::phases::nine;
 use crate::{Hash, pattern};
 
 pub use drawn::{Draws, FIRST, Most, run};
-pub(crate) use drawn::{lengths, step};
+pub(crate) use drawn::{cell, lengths, step};
 
 use Buffer::{
     Add, Base0, Base1, Coefs, Curve, Cycle, Fm, Inner, Last, Mod0, Mod1, Numbers, Output, Pairs,

@@ -1,7 +1,7 @@
-//! The wavetable crate's shaper with document 01's added rules put in: what
-//! the port is compared with. Every line that differs from the published
-//! text is marked `added:` with the rule it serves; each file ends with one
-//! added module that opens its private functions to tests.
+//! The wavetable crate's shaper with the added rules of documents 01 and 02
+//! put in: what the port is compared with. Every line that differs from the
+//! published text is marked `added:` with the rule it serves; each file ends
+//! with one added module that opens its private functions to tests.
 
 #![allow(
     dead_code,

@@ -1,11 +1,13 @@
-//! Document 01's values to hold on to, and the run of a range against the
-//! crate's own render and against its cuts.
+//! Document 01's values to hold on to, values of pictures, and the run of a
+//! range against the crate's own render and against its cuts.
 
 use ruled::api::halfband::{Design, designs, process};
 use ruled::api::wave::{Pair, curve, distort_smooth, integral};
 use ruled::api::{self, Card, Lent, Rows, Settings, State, lanes, phase};
 
 const ODD_EVEN: u32 = 16;
+const LOW_PASS: u32 = 17;
+const HIGH_PASS: u32 = 18;
 const HARD_CLIP: u32 = 21;
 const FOLD: u32 = 24;
 const AM_1: u32 = 58;
@@ -117,6 +119,62 @@ fn amounts_and_sources() {
     };
     let low = card(&[-1.0, -1.0]);
     assert_eq!(low.shape_at_lane(0, 0, 0, 0, 1.0, state), 0.0);
+}
+
+/// A picture of so many points with one mode and amount, slot 1 off.
+fn picture(mode: u32, amount: f32, cycle: &[f32], points: usize) -> Vec<f32> {
+    let mut picture = vec![f32::NAN; points];
+    let (modes, amounts) = ([mode, 0], [amount, 0.0]);
+    api::preview(modes, [0.0; 2], amounts, &identity(), cycle, &mut picture);
+    picture
+}
+
+/// The crate works a point's word out in f64; it is the quotient of whole
+/// numbers.
+#[test]
+fn words_of_points() {
+    let mut words = 0;
+    for len in 1..=4096u64 {
+        for i in 0..len {
+            let word = (i as f64 / len as f64 * ruled::CYCLE) as u64 as u32;
+            assert_eq!(u64::from(word), (i << 32) / len, "point {i} of {len}");
+            words += 1;
+        }
+    }
+    assert_eq!(words, 8_390_656);
+}
+
+#[test]
+fn pictures() {
+    let rising: Vec<f32> = (0u16..2048).map(f32::from).collect();
+    assert_eq!(picture(0, 0.0, &rising, 4), [0.0, 512.0, 1024.0, 1536.0]);
+    assert_eq!(picture(0, 0.0, &rising, 3), [0.0, 682.0, 1365.0]);
+    assert_eq!(picture(HARD_CLIP, 0.0, &[2.0; 2048], 5), [1.0; 5]);
+    assert_eq!(picture(ODD_EVEN, 50.0, &rising, 2048), rising);
+    assert_eq!(picture(AM_1, 50.0, &rising, 2048), rising);
+    let one = [1.0; 2048];
+    assert_eq!(picture(LOW_PASS, 0.0, &one, 256), [1.0; 256]);
+    assert_eq!(picture(HIGH_PASS, 0.0, &one, 256), [0.0; 256]);
+    assert!((picture(LOW_PASS, 0.0, &one, 1)[0] - 1.0).abs() < 0.007);
+}
+
+/// A point is the sum of its products from the first on, so that a -0 stays
+/// unless +0 is added to it.
+#[test]
+fn zeros_of_pictures() {
+    let first = |mode: u32, opposite: f32| {
+        let mut cycle = [0.5; 2048];
+        (cycle[0], cycle[1024]) = (-0.0, opposite);
+        picture(mode, 50.0, &cycle, 2)[0].to_bits()
+    };
+    let (zero, minus_zero) = (0, 1 << 31);
+    assert_eq!(first(0, 0.5), minus_zero);
+    assert_eq!(first(AM_1, 0.5), minus_zero);
+    assert_eq!(first(ODD_EVEN, 0.5), zero);
+    assert_eq!(first(ODD_EVEN, 0.0), zero);
+    assert_eq!(first(ODD_EVEN, -0.5), minus_zero);
+    assert_eq!(first(ODD_EVEN, -0.0), minus_zero);
+    assert!(f32::from_bits(first(ODD_EVEN, f32::INFINITY)).is_nan());
 }
 
 /// A lane's state and the output after a list of ranges.

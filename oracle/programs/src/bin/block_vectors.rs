@@ -9,6 +9,7 @@
 //! pairs, fm, last and state. oracle/README.md has what is made of each word.
 
 use programs::blocks::{BLOCK, run};
+use programs::pairs;
 
 /// The calls of a run.
 const CALLS: u32 = 8;
@@ -30,25 +31,6 @@ const MORE: [[u32; 2]; 12] = [
     [24, 16],
 ];
 
-/// The modes of each run, slot 0's first: all 70 in each slot, twice.
-fn modes() -> impl Iterator<Item = [u32; 2]> {
-    let every = |step: u32, from: u32| (0..70).map(move |mode| [mode, (step * mode + from) % 70]);
-    every(29, 5).chain(every(13, 44)).chain(MORE)
-}
-
 fn main() {
-    for (place, [mode0, mode1]) in modes().enumerate() {
-        let line = 0x500 + place as u32;
-        // Odd in turn, a mode's second run unlike its first.
-        let odd = (mode0 + place as u32 / 70) & 1;
-        let seed = line.wrapping_mul(0x9e37_79b1) & !1 | odd;
-        let hash = run([mode0, mode1], seed, CALLS);
-        println!(
-            "{:02x} {seed:08x} {:08x} {:08x} {:08x}",
-            BLOCK + 0x80,
-            mode1 << 24 | mode0 << 16 | CALLS,
-            (hash >> 32) as u32,
-            hash as u32
-        );
-    }
+    pairs::print(BLOCK + 0x80, 0x500, CALLS, &MORE, run);
 }

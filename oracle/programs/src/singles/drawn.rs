@@ -50,7 +50,7 @@ fn slope(draw: u32) -> u32 {
 }
 
 /// A float: of a wild call an eighth each is special or any pattern.
-fn cell(draw: u32, is_wild: bool, tame: u32) -> f32 {
+pub(crate) fn cell(draw: u32, is_wild: bool, tame: u32) -> f32 {
     f32::from_bits(match draw & 7 {
         0 if is_wild => special(draw),
         1 if is_wild => draw,

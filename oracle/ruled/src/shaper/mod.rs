@@ -812,9 +812,8 @@ impl Shapers {
             if self.slots[0].mode.stage() == Stage::Phase {
                 list = phase::apply(&views[0], amount(0), half * inner, &list);
             }
-            *point = (0..list.count)
-                .map(|r| list.gain[r] * wave.read(list.word[r]))
-                .sum();
+            let product = |r: usize| list.gain[r] * wave.read(list.word[r]); // added: products add up from the first
+            *point = (1..list.count).fold(product(0), |sum, r| sum + product(r)); // added: products add up from the first
         }
         for (slot, view) in self.slots.iter().zip(&views) {
             // An inter-oscillator mode reads a signal the preview doesn't

@@ -1,0 +1,64 @@
+-- Runs over a picture in place, and a filter's state over one: at the start and with one point more. Assumes nothing.
+use mathlib.Core.Path.{_≡_, refl, sym, _∙_}
+use mathlib.Core.List.{List}
+use Prim.Native.Nat.{ℕ, _+_, _<_, _≤_}
+use native.Mathlib.Decide.{ℕ-discrete}
+use native.Mathlib.Numerals.{add-one}
+use native.Mathlib.Omega.{arith}
+use lib.ListN.{length, getD, set, length-set}
+use lib.Seq.{getD-set-same, getD-set-other, ext-getD}
+use lib.Ieee.{Float, nan}
+use Rattle.grid.specs.Functions.{table}
+use Rattle.grid.proofs.TableLaws.{length-table, getD-table}
+use Rattle.wave.specs.declared.filters.Svf.{Svf}
+use Rattle.wave.specs.declared.filters.Filtered.{Filtered}
+use Rattle.preview.specs.Runs.{Ran}
+use Rattle.preview.specs.Filtering.{passTo, settledTo, drawnAt, silent, filteredOf}
+
+pub ran-none : (answer : ℕ → Float) (xs : List Float) → Ran answer xs xs 0
+ran-none answer xs = record { long = refl; made = λ k h. absurd (omega arith); kept = λ k h. refl }
+
+pub ran-more : (answer : ℕ → Float) (before now : List Float) (i : ℕ) (v : Float) → i < length now → Ran answer before now i → v ≡ answer i → Ran answer before (set now i v) (i + 1)
+ran-more answer before now i v h r e =
+    record {
+      long = rw length-set (r .long);
+      made = λ k l. go k l (ℕ-discrete k i);
+      kept = λ k l. getD-set-other now i k v nan (λ (q : k ≡ i). omega arith) ∙ r .kept k (omega arith);
+    }
+  where
+    go : (k : ℕ) → k < i + 1 → Dec (k ≡ i) → getD (set now i v) k nan ≡ answer k
+    go k l (yes q) = rw q (getD-set-same now i v nan h ∙ e)
+    go k l (no q) = getD-set-other now i k v nan q ∙ r .made k (omega arith)
+
+-- a run over all of a picture leaves nothing of it
+pub ran-done : (answer : ℕ → Float) (before after : List Float) → Ran answer before after (length before) → after ≡ table (length before) answer
+ran-done answer before after r =
+    ext-getD nan _ _ (r .long ∙ sym (length-table (length before) answer))
+    (λ i l. let low : i < length before = omega (arith, r .long) in r .made i low ∙ sym (getD-table (length before) answer i nan low))
+
+-- ---- a filter's state
+
+module _ (step : Float → Svf → Filtered) (xs : List Float) (start : Svf) where
+  pub pass-none : start ≡ passTo step xs start 0
+  unfolding passTo
+  pass-none = refl
+
+  pub pass-more : (i : ℕ) (s : Svf) (r : Filtered) → s ≡ passTo step xs start i → r ≡ step (getD xs i nan) s → r .state ≡ passTo step xs start (i + 1)
+  unfolding passTo
+  pass-more i s r h e = rw (add-one, e, h)
+
+  pub drawn : (i : ℕ) (s : Svf) (r : Filtered) → s ≡ passTo step xs start i → r ≡ step (getD xs i nan) s → r .y ≡ drawnAt step xs start i
+  drawn i s r h e = rw (e, h)
+
+  pub settled-none : start ≡ settledTo step xs start 0
+  unfolding settledTo
+  settled-none = refl
+
+  pub settled-more : (i : ℕ) (s r : Svf) → s ≡ settledTo step xs start i → r ≡ passTo step xs s (length xs) → r ≡ settledTo step xs start (i + 1)
+  unfolding settledTo
+  settled-more i s r h e = rw (add-one, ← h) e
+
+-- the pass that is drawn from the settled state
+pub filtered : (step : Float → Svf → Filtered) (xs ys : List Float) (s : Svf) → s ≡ settledTo step xs silent 15 → Ran (drawnAt step xs s) xs ys (length xs) → ys ≡ filteredOf step xs
+unfolding filteredOf
+filtered step xs ys s e r = ran-done _ xs ys (rw e at r)

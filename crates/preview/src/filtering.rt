@@ -1,0 +1,47 @@
+// A picture through a filter: its state over the points, pass by pass. `g` is the cutoff's tangent, `k`
+// the damping.
+use wave::Svf;
+use wave::filter_with;
+ghost use mathlib.Core.Path.{_≡_};
+ghost use lib.ListN.{length};
+ghost use Rattle.wave.specs.Filter.{filterWith};
+ghost use Rattle.preview.specs.Filtering.{passTo, settledTo, drawnAt, silent};
+ghost use Rattle.preview.specs.Runs.{Ran};
+
+// The filter's state after a pass over the picture.
+fn pass(mode: u32, g: f32, k: f32, state: Svf, picture: &[f32]) -> Svf
+    ensures { λ r. ⌜ r ≡ passTo (filterWith mode g k) (now (picture .entry)) state (length (now (picture .entry))) ⌝ }
+{
+    let mut s = state;
+    for i in 0..picture.len() {
+        let out = filter_with(mode, g, k, picture[i], s);
+        let next = out.state;
+        s = next;
+    }
+    s
+}
+
+// After fifteen of them, from silence.
+pub fn settle(mode: u32, g: f32, k: f32, picture: &[f32]) -> Svf
+    ensures { λ r. ⌜ r ≡ settledTo (filterWith mode g k) (now (picture .entry)) silent 15 ⌝ }
+{
+    let mut s = Svf { ic1: 0.0, ic2: 0.0 };
+    let passes = 15usize;
+    for _ in 0..passes {
+        s = pass(mode, g, k, s, picture);
+    }
+    s
+}
+
+// The pass that is drawn, in place.
+pub fn draw_pass(mode: u32, g: f32, k: f32, state: Svf, picture: &mut [f32])
+    ensures { λ _. ⌜ Ran (drawnAt (filterWith mode g k) (now (picture .entry)) state) (now (picture .entry)) (now (picture .exit)) (length (now (picture .entry))) ⌝ }
+{
+    let mut s = state;
+    for i in 0..picture.len() {
+        let out = filter_with(mode, g, k, picture[i], s);
+        picture[i] = out.y;
+        let next = out.state;
+        s = next;
+    }
+}
