@@ -1,19 +1,22 @@
 -- A point's reads: the list has one at least, and the sum of it as it goes out is the sum of all its products. Assumes nothing.
 use Prim.Native.Nat.{ℕ, _≤_}
 use mathlib.Core.Path.{_≡_, ap, _∙_}
-use mathlib.Core.Bool.{Bool, false}
+use mathlib.Core.Bool.{Bool, false, _||_}
 use mathlib.Core.List.{List}
-use lib.Dec.{T}
+use lib.Dec.{T, eqb}
 use lib.Ieee.{Float, binary32, fits}
 use Rattle.floats.specs.Steps.{_>>=_, if_then_else_}
-use Rattle.reads.specs.Reads.{startOf, outgoingOf, readSum}
+use Rattle.modes.specs.Choice.{caseOf}
+use Rattle.limits.proofs.LineLaws.{or-false}
+use Rattle.reads.specs.Reads.{startOf, outgoingOf, cycleAt, readSum}
+use Rattle.slope.specs.Slope.{slopeOf, stretchOf}
 use Rattle.phase.specs.declared.map.Slot.{Slot}
 use Rattle.phase.specs.Power.{mapPower}
 use Rattle.phase.specs.Sums.{applyIf, shiftIf}
 use Rattle.phase.proofs.Alone.{Alone, start-alone, alone-if, all-products}
 use Rattle.voice.specs.PhaseRun.{inPhase}
 use Rattle.preview.specs.declared.points.MapSetting.{MapSetting}
-use Rattle.preview.specs.Points.{mapSetting, drawnReads, pointOf}
+use Rattle.preview.specs.Points.{Steepest, mapSetting, drawnReads, pointOf}
 
 -- ---- a slot's map that is set as it should be
 abbrev pub IsSet : MapSetting → Type 0
@@ -24,7 +27,7 @@ unfolding mapSetting
 is-set slot a h m e = rw e
 
 module _ (m : MapSetting) (e : IsSet m) where
-  set-on : m .on ≡ inPhase (m .slot .mode)
+  pub set-on : m .on ≡ inPhase (m .slot .mode)
   unfolding mapSetting
   set-on = ap (λ (x : MapSetting). x .on) e
 
@@ -59,3 +62,18 @@ pub summed : (sk ak curve cycle : List Float) (map0 map1 : MapSetting) (word : �
     → x ≡ pointOf sk ak curve cycle (map0 .slot) (map0 .amount) (map0 .half) (map1 .slot) (map1 .amount) (map1 .half) word
 unfolding drawnReads shiftIf if_then_else_ _>>=_
 summed sk ak curve cycle map0 map1 word x s0 s1 e F = products sk ak curve _ _ _ _ _ _ word cycle x (rw (set-on map0 s0, set-on map1 s1) at e) F
+
+-- where neither slot is in the phase stage, the one read
+pub plain-point : (sk ak curve cycle : List Float) (slot0 : Slot) (a0 h0 : Float) (slot1 : Slot) (a1 h1 : Float) (word : ℕ) → inPhase (slot0 .mode) ≡ false → inPhase (slot1 .mode) ≡ false
+    → T (fits binary32 (cycleAt cycle word))
+    → cycleAt cycle word ≡ pointOf sk ak curve cycle slot0 a0 h0 slot1 a1 h1 word
+unfolding drawnReads applyIf startOf outgoingOf readSum if_then_else_ _>>=_
+plain-point sk ak curve cycle slot0 a0 h0 slot1 a1 h1 word e0 e1 F = products sk ak curve slot0 a0 h0 slot1 a1 h1 word cycle (cycleAt cycle word) (rw (e0, e1)) F
+
+-- ---- a slope that does not go by the curve
+pub any-steepest : (mode : ℕ) (curve : List Float) (s : Float) → (eqb mode 11 || eqb mode 12 || eqb mode 14) ≡ false → Steepest mode curve s
+unfolding stretchOf slopeOf caseOf _>>=_
+any-steepest mode curve s e =
+    let two = or-false (eqb mode 11 || eqb mode 12) (eqb mode 14) e in
+    let one = or-false (eqb mode 11) (eqb mode 12) (two .0) in
+    record { alike = λ a. rw (one .0, one .1, two .1) }

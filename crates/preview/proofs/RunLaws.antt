@@ -1,5 +1,6 @@
 -- Runs over a picture in place, and a filter's state over one: at the start and with one point more. Assumes nothing.
 use mathlib.Core.Path.{_≡_, refl, sym, _∙_}
+use mathlib.Core.Bool.{false}
 use mathlib.Core.List.{List}
 use Prim.Native.Nat.{ℕ, _+_, _<_, _≤_}
 use native.Mathlib.Decide.{ℕ-discrete}
@@ -7,12 +8,20 @@ use native.Mathlib.Numerals.{add-one}
 use native.Mathlib.Omega.{arith}
 use lib.ListN.{length, getD, set, length-set}
 use lib.Seq.{getD-set-same, getD-set-other, ext-getD}
-use lib.Ieee.{Float, nan}
+use lib.Dec.{T}
+use lib.Ieee.{Float, nan, binary32, fits}
 use Rattle.grid.specs.Functions.{table}
 use Rattle.grid.proofs.TableLaws.{length-table, getD-table}
 use Rattle.wave.specs.declared.filters.Svf.{Svf}
 use Rattle.wave.specs.declared.filters.Filtered.{Filtered}
-use Rattle.preview.specs.Runs.{Ran}
+use Rattle.lanes.specs.declared.maths.Numbers.{Numbers}
+use Rattle.reads.specs.Reads.{cycleAt}
+use Rattle.phase.specs.declared.map.Slot.{Slot}
+use Rattle.voice.specs.PhaseRun.{inPhase}
+use Rattle.preview.specs.Points.{wordAt}
+use Rattle.preview.specs.Picture.{readOf}
+use Rattle.preview.specs.Runs.{Ran, PlainRead}
+use Rattle.preview.proofs.PointLaws.{plain-point}
 use Rattle.preview.specs.Filtering.{passTo, settledTo, drawnAt, silent, filteredOf}
 
 pub ran-none : (answer : ℕ → Float) (xs : List Float) → Ran answer xs xs 0
@@ -35,6 +44,32 @@ pub ran-done : (answer : ℕ → Float) (before after : List Float) → Ran answ
 ran-done answer before after r =
     ext-getD nan _ _ (r .long ∙ sym (length-table (length before) answer))
     (λ i l. let low : i < length before = omega (arith, r .long) in r .made i low ∙ sym (getD-table (length before) answer i nan low))
+
+-- ---- a picture that no slot maps
+module _ (cycle before : List Float) where
+  pub plain-none : PlainRead cycle before before 0
+  plain-none = record { ran = ran-none _ before; held = λ k h. absurd (omega arith) }
+
+  pub plain-more : (now : List Float) (i : ℕ) (v : Float) → i < length now → PlainRead cycle before now i
+      → v ≡ cycleAt cycle (wordAt (length before) i) → T (fits binary32 v)
+      → PlainRead cycle before (set now i v) (i + 1)
+  plain-more now i v h r e F = record { ran = ran-more _ before now i v h (r .ran) e; held = λ k l. go k l (ℕ-discrete k i) }
+    where
+      go : (k : ℕ) → k < i + 1 → Dec (k ≡ i) → T (fits binary32 (cycleAt cycle (wordAt (length before) k)))
+      go k l (yes q) = rw (q, ← e) F
+      go k l (no q) = r .held k (omega arith)
+
+  pub plain-done : (numbers : Numbers) (curve after : List Float) (slot0 : Slot) (a0 h0 : Float) (slot1 : Slot) (a1 h1 : Float)
+      → inPhase (slot0 .mode) ≡ false → inPhase (slot1 .mode) ≡ false → PlainRead cycle before after (length before)
+      → after ≡ readOf numbers curve cycle slot0 a0 h0 slot1 a1 h1 (length before)
+  unfolding readOf
+  plain-done numbers curve after slot0 a0 h0 slot1 a1 h1 e0 e1 r =
+      ran-done _ before after
+      (record {
+        long = r .ran .long;
+        made = λ k l. r .ran .made k l ∙ plain-point (numbers .sin) (numbers .atan) curve cycle slot0 a0 h0 slot1 a1 h1 _ e0 e1 (r .held k l);
+        kept = r .ran .kept;
+      })
 
 -- ---- a filter's state
 

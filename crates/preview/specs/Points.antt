@@ -1,5 +1,6 @@
 -- A point of a picture: where it reads, and what its reads add up to. Definitions only.
 use Prim.Native.Nat.{ℕ, _-_, _*_, _/_, _^_}
+use mathlib.Core.Path.{_≡_}
 use mathlib.Core.List.{List}
 use lib.IntN.{pos}
 use lib.Ieee as Ieee
@@ -28,6 +29,10 @@ wordAt points i = i * 2 ^ 32 / points
 -- 1.0 / len as f32
 unfoldable pub incrementOf : ℕ → Float
 incrementOf points = 1f ⊘ Ieee.ofInt binary32 (pos points)
+
+-- s does for the curve's steepest slope in the mode's own
+pub record Steepest (mode : ℕ) (curve : List Float) (s : Float) : Type 0 where
+  pub alike : (a : Float) → stretchOf mode a s ≡ stretchOf mode a (steepestOf curve)
 
 -- slot 1's steepest slope, and 1 where it isn't in the phase stage
 unfoldable pub innerOf : ℕ → Float → List Float → Float

@@ -1,6 +1,7 @@
 // A picture's reads, and the whole of it.
 use crate::points::MapSetting;
 use crate::points::amount_of;
+use crate::points::held;
 use crate::points::increment_of;
 use crate::points::inner_of;
 use crate::points::map_setting;
@@ -9,15 +10,17 @@ use crate::points::word_at;
 use crate::shaping::shape_slot;
 use lanes::Numbers;
 use phase::Slot;
+use reads::read_cycle;
 ghost use mathlib.Core.Path.{_≡_};
 ghost use Prim.Native.Nat.{_≤_, _<_};
 ghost use lib.ListN.{length};
 ghost use Rattle.floats.specs.Exp2.{entries};
 ghost use Rattle.preview.specs.Points.{mapSetting};
+ghost use Rattle.preview.specs.Runs.{PlainRead};
 ghost use Rattle.preview.specs.Picture.{readOf, pictureOf};
 
-// The sums of all points' reads.
-fn read(
+// The sums of all points' reads, where a slot is in the phase stage.
+fn read_mapped(
     numbers: Numbers,
     curve: &[f32],
     cycle: &[f32],
@@ -35,6 +38,39 @@ fn read(
         let word = word_at(points, i);
         picture[i] = point(numbers, curve, cycle, map0, map1, word);
     }
+}
+
+// Where none is: the cycle at each point's word.
+fn read_plain(cycle: &[f32], picture: &mut [f32])
+    requires { ⌜ 2048 ≤ length (now cycle) ⌝ ∗ ⌜ length (now picture) ≤ 4096 ⌝ }
+    ensures { λ _. ⌜ PlainRead (now (cycle .entry)) (now (picture .entry)) (now (picture .exit)) (length (now (picture .entry))) ⌝ }
+{
+    let points = picture.len();
+    for i in 0..points {
+        let word = word_at(points, i);
+        picture[i] = held(read_cycle(cycle, word));
+    }
+}
+
+// The sums of all points' reads.
+fn read(
+    numbers: Numbers,
+    curve: &[f32],
+    cycle: &[f32],
+    map0: MapSetting,
+    map1: MapSetting,
+    picture: &mut [f32],
+)
+    requires { ⌜ map0 ≡ mapSetting (map0 .slot) (map0 .amount) (map0 .half) ⌝ ∗ ⌜ map1 ≡ mapSetting (map1 .slot) (map1 .amount) (map1 .half) ⌝ }
+    requires { ⌜ 1024 < length (now curve) ⌝ ∗ ⌜ 2048 ≤ length (now cycle) ⌝ ∗ ⌜ length (now picture) ≤ 4096 ⌝ }
+    ensures { λ _. ⌜ now (picture .exit) ≡ readOf numbers (now (curve .entry)) (now (cycle .entry))
+        (map0 .slot) (map0 .amount) (map0 .half) (map1 .slot) (map1 .amount) (map1 .half) (length (now (picture .entry))) ⌝ }
+{
+    if map0.on | map1.on {
+        read_mapped(numbers, curve, cycle, map0, map1, picture);
+        return;
+    }
+    read_plain(cycle, picture);
 }
 
 // The picture of a call that is accepted: the reads, then slot 0 and slot 1.

@@ -3,6 +3,9 @@ use curve::steepest_of;
 use floats::nearest_u32;
 use lanes::Numbers;
 use lanes::clamp;
+use modes::numbers::REMAP_DRAWN;
+use modes::numbers::REMAP_MIRRORED;
+use modes::numbers::REMAP_QUAD;
 use phase::Slot;
 use phase::map_power;
 use phase::mapped_sum;
@@ -14,7 +17,7 @@ ghost use lib.Dec.{T};
 ghost use lib.ListN.{length};
 ghost use lib.Ieee.{binary32, fits};
 ghost use Rattle.floats.specs.Exp2.{entries};
-ghost use Rattle.preview.specs.Points.{amountOf, wordAt, incrementOf, innerOf, mapSetting, pointOf};
+ghost use Rattle.preview.specs.Points.{amountOf, wordAt, incrementOf, Steepest, innerOf, mapSetting, pointOf};
 
 // A slot's map for all points of a picture, with half the width of its edges. `on` is whether the slot is
 // in the phase stage.
@@ -49,13 +52,25 @@ pub fn increment_of(points: usize) -> f32
     1.0 / nearest_u32(points as u32)
 }
 
+// The curve's steepest slope for a mode whose own goes by it. For any other mode 1 does as well, and the
+// curve need not be walked through.
+fn steepest_for(mode: u32, curve: &[f32]) -> f32
+    requires { ⌜ 1024 < length (now curve) ⌝ }
+    ensures { λ r. ⌜ Steepest mode (now (curve .entry)) r ⌝ }
+{
+    if (mode == REMAP_DRAWN) | (mode == REMAP_MIRRORED) | (mode == REMAP_QUAD) {
+        return steepest_of(curve);
+    }
+    1.0
+}
+
 // How much faster than the phase slot 1 reads at most, if it is in the phase stage.
 pub fn inner_of(powers: &[u32; 257], mode: u32, a: f32, curve: &[f32]) -> f32
     requires { ⌜ now powers ≡ entries ⌝ ∗ ⌜ 1024 < length (now curve) ⌝ }
     ensures { λ r. ⌜ r ≡ innerOf mode a (now (curve .entry)) ⌝ }
 {
     if in_phase(mode) {
-        return stretch_of(powers, mode, a, steepest_of(curve));
+        return stretch_of(powers, mode, a, steepest_for(mode, curve));
     }
     1.0
 }
@@ -74,7 +89,7 @@ pub fn map_setting(powers: &[u32; 257], slot: Slot, amount: f32, half: f32) -> M
 }
 
 // That a float is one of f32's, which a proof learns of a parameter.
-fn held(x: f32) -> f32
+pub fn held(x: f32) -> f32
     ensures { λ r. ⌜ (r ≡ x) × T (fits binary32 x) ⌝ }
 {
     x

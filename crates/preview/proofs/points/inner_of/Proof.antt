@@ -9,7 +9,8 @@ use Rattle.preview.proofs.points.inner_of.Tie as tie
 returns : tie.Need-returns
 unfolding innerOf
 returns c =
-    rw (taken _ _ (sym (c .before .before .before .in-phase .ensures) ∙ c .before .before .if1 .taken)) (rw (c .before .steepest-of .ensures) at (c .stretch-of .ensures))
+    let d = c .before .before in
+    rw (taken _ _ (sym (d .before .in-phase .ensures) ∙ d .if1 .taken)) (c .stretch-of .ensures ∙ c .before .steepest-for .ensures .alike _)
 
 returns-2 : tie.Need-returns-2
 unfolding innerOf
