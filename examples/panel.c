@@ -9,9 +9,10 @@
 #include <string.h>
 
 static const char usage[] =
-    "usage: panel MODE0 AMOUNT0 CHARACTER0 MODE1 AMOUNT1 CHARACTER1 [CYCLE] > picture.svg\n"
+    "usage: panel MODE0 AMOUNT0 CHARACTER0 MODE1 AMOUNT1 CHARACTER1 [CYCLE [CURVE]] > picture.svg\n"
     "  modes by name or number (docs/MODES.md), amounts in percent, 0 to 100, characters 0 to 1\n"
-    "  CYCLE is a file whose first 2,048 floats are drawn; without it the cycle is a sine's\n";
+    "  CYCLE and CURVE are files of raw 32-bit floats as this machine stores them, of which the first 2,048 and 1,025\n"
+    "  count; without them the cycle is a sine's and the remap curve changes nothing\n";
 
 /* In pixels: a point is one wide. */
 enum { POINTS = 512, HALF = 140, LEFT = 56, HEAD = 72, WIDTH = LEFT + POINTS + 24, HEIGHT = HEAD + 2 * HALF + 36 };
@@ -58,21 +59,28 @@ static struct slot slot_of(char **words)
     return (struct slot){mode_of(words[0]), number_of(words[1], 100.0f), number_of(words[2], 1.0f)};
 }
 
-/* The remap curve that changes nothing, and the cycle: the file's, if one is named. */
-static void make_tables(const char *name)
+/* The first numbers of a file, if one is named. */
+static void read_table(const char *name, float *table, size_t count)
 {
-    for (int i = 0; i < SHAPER_CURVE; i++)
-        curve[i] = (float)i / (SHAPER_CURVE - 1);
-    for (int i = 0; i < SHAPER_CYCLE; i++)
-        cycle[i] = (float)sin(i * 6.283185307179586 / SHAPER_CYCLE);
     if (name == NULL)
         return;
     FILE *file = fopen(name, "rb");
-    if (file == NULL || fread(cycle, sizeof *cycle, SHAPER_CYCLE, file) != SHAPER_CYCLE) {
-        fprintf(stderr, "panel: no 2,048 floats can be read from %s\n", name);
+    if (file == NULL || fread(table, sizeof *table, count, file) != count) {
+        fprintf(stderr, "panel: no %zu floats can be read from %s\n", count, name);
         exit(1);
     }
     fclose(file);
+}
+
+/* By the words behind the slots': a cycle's file, a curve's. */
+static void make_tables(int count, char **words)
+{
+    for (int i = 0; i < SHAPER_CYCLE; i++)
+        cycle[i] = (float)sin(i * 6.283185307179586 / SHAPER_CYCLE);
+    for (int i = 0; i < SHAPER_CURVE; i++)
+        curve[i] = (float)i / (SHAPER_CURVE - 1);
+    read_table(count > 0 ? words[0] : NULL, cycle, SHAPER_CYCLE);
+    read_table(count > 1 ? words[1] : NULL, curve, SHAPER_CURVE);
 }
 
 static const char *meaning(uint32_t number)
@@ -137,10 +145,10 @@ int main(int argc, char **argv)
 {
     static const struct slot off[SHAPER_SLOTS];
     float plain[POINTS], shaped[POINTS];
-    if (argc != 7 && argc != 8)
+    if (argc < 7 || argc > 9)
         stop(NULL);
     const struct slot slots[SHAPER_SLOTS] = {slot_of(argv + 1), slot_of(argv + 4)};
-    make_tables(argv[7]);
+    make_tables(argc - 7, argv + 7);
     preview(off, plain);
     preview(slots, shaped);
     draw(slots, plain, shaped);

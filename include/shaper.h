@@ -15,8 +15,8 @@
  *   - No one else writes a buffer of the call while it runs, or reads one that it writes.
  *   - The thread's floating-point mode is C's default: to nearest, and subnormal numbers are kept.
  * Beyond that arguments may be any, NaN and infinities too. A count need not be a multiple of anything: what is longer
- * than asked for is left alone, what is shorter is refused, an empty buffer too where something is asked for, unless it
- * may be absent.
+ * than asked for is left alone (but a picture, of which every number is a point), what is shorter is refused, an empty
+ * buffer too where something is asked for, unless it may be absent.
  */
 #ifndef SHAPER_H
 #define SHAPER_H
@@ -285,18 +285,19 @@ struct shaper_needs shaper_plan(
  * at as many points as the picture has.
  *
  *   mode0, mode1            the slots' modes (enum shaper_mode; shaper_names.h has their names)
- *   character0, character1  the slots' characters, kept to 0..1
+ *   character0, character1  the slots' characters, kept to 0..1; of NaN a filter makes NaN
  *   amount0, amount1        the slots' amounts in percent, kept to 0..100; NaN stays NaN
  *   numbers, curve, cycle   read, as in shaper_block_run, whatever the modes
  *   picture                 written, 0 to SHAPER_POINTS points: every number of the buffer is one, and what stood there
  *                           does not matter
  *
- * Point i, counted from 0, lies at phase i / points. Edges are drawn sharp, half a point wide: a point on an edge lies
- * between its two sides. Filters are drawn settled, after 15 cycles; their cutoff is at most 0.45 cycles a point, so
- * that a picture of few points has less of the upper harmonics than the sound. A mode with a source draws as though the
- * source were silent: it leaves the cycle as it is. Nothing of a lane or a block takes part, and a panel may draw while
- * blocks run. Turned down by SHAPER_BAD_MODE, SHAPER_BAD_FRAMES or SHAPER_SHORT_READ, tested in this order, an empty
- * picture as any other. Answers the points as its frames. */
+ * Point i, counted from 0, lies at phase i / points. Edges are half a point wide, and a point on one lies between its
+ * two sides; in slot 0, behind a map of slot 1, so wide only where that map is steepest. Sync's character softens its
+ * restart as it does in the sound. Filters are drawn after 15 cycles, from silence on; their cutoff is at most 0.45
+ * cycles a point, and a higher one is drawn as that. A mode with a source draws as in a run where the source is absent:
+ * it leaves the cycle as it is. Nothing of a lane or a block takes part, and a panel may draw while blocks run. Turned
+ * down by SHAPER_BAD_MODE, SHAPER_BAD_FRAMES or SHAPER_SHORT_READ, tested in this order, an empty picture as any other.
+ * Answers the points as its frames. */
 struct shaper_answer shaper_preview(
     uint32_t mode0, uint32_t mode1, float character0, float character1, float amount0, float amount1,
     const float *numbers, size_t numbers_length, const float *curve, size_t curve_length, const float *cycle,

@@ -42,8 +42,8 @@ static inline int shaper_same_name(const char *a, const char *b)
     }
 }
 
-/* The mode of a whole name, in capitals or not (no two names differ by that alone), or SHAPER_MODES, which every call
- * turns down, where no mode has it. */
+/* The mode of a whole name, which is not NULL, in capitals or not (no two names differ by that alone); where no mode
+ * has it, SHAPER_MODES, which every call that takes a mode turns down. */
 static inline uint32_t shaper_mode_of(const char *name)
 {
     uint32_t mode = 0;

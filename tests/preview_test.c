@@ -424,7 +424,7 @@ static void check_refusal(struct lengths n, float *into)
     check(answered(answer, line, line == SHAPER_ACCEPTED ? (uint32_t)n.points : 0), "the answer of a call");
     const size_t written = line == SHAPER_ACCEPTED ? n.points : 0;
     check(are_all(cells, GUARD, 77.0f) && are_all(picture + written, CELLS - GUARD - written, 77.0f),
-        "what a refused call was lent");
+        "the cells that a call leaves");
 }
 
 /* Every line alone and with every other. A picture of 4,097 points has a buffer of as many. */

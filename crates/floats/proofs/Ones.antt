@@ -66,7 +66,7 @@ turned-signs true false = refl
 turned-signs false true = refl
 turned-signs false false = refl
 
-pub times-turned : (x y : Float) → x ⊗ y ≡ y ⊗ x
+times-turned : (x y : Float) → x ⊗ y ≡ y ⊗ x
 unfolding mul
 times-turned nan nan = refl
 times-turned nan (inf t) = refl

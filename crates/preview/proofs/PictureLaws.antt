@@ -18,7 +18,7 @@ use Rattle.preview.specs.Shaping.{distortedOf, settledOf, shapedOf}
 use Rattle.preview.specs.Picture.{readOf, pictureOf}
 
 -- map0, map1: the slots' maps with half widths h0 and h1, as they are handed on
-pub drawn : (numbers : Numbers) (curve cycle : List Float) (slot0 slot1 : Slot) (percent0 percent1 : Float) (points : ℕ)
+pub picture-drawn : (numbers : Numbers) (curve cycle : List Float) (slot0 slot1 : Slot) (percent0 percent1 : Float) (points : ℕ)
     (increment a0 a1 inner : Float) (map0 map1 : MapSetting) (read once out : List Float)
     → increment ≡ incrementOf points
     → a0 ≡ amountOf percent0
@@ -31,7 +31,7 @@ pub drawn : (numbers : Numbers) (curve cycle : List Float) (slot0 slot1 : Slot) 
     → out ≡ shapedOf (numbers .sin) slot1 a1 increment once
     → out ≡ pictureOf numbers curve cycle slot0 slot1 percent0 percent1 points
 unfolding pictureOf mapSetting _>>=_
-drawn numbers curve cycle slot0 slot1 percent0 percent1 points increment a0 a1 inner map0 map1 read once out e0 e1 e2 e3 m0 m1 e4 e5 e6 =
+picture-drawn numbers curve cycle slot0 slot1 percent0 percent1 points increment a0 a1 inner map0 map1 read once out e0 e1 e2 e3 m0 m1 e4 e5 e6 =
     let mapped : read ≡ readOf numbers curve cycle slot0 a0 (¼f ⊗ increment ⊗ inner) slot1 a1 (¼f ⊗ increment) points = rw (m0, m1) at e4 in
     search steps depth 10
 
@@ -66,7 +66,7 @@ module _ (sk : List Float) (slot : Slot) (a increment : Float) (xs : List Float)
   unfolding distortedOf
   length-distorted = length-table (length xs) _
 
-  pub length-shaped : length (shapedOf sk slot a increment xs) ≡ length xs
+  length-shaped : length (shapedOf sk slot a increment xs) ≡ length xs
   unfolding shapedOf
   length-shaped = length-if _ _ _ _ (length-if _ _ _ _ length-settled length-distorted) refl
 

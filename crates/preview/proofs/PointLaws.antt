@@ -1,4 +1,5 @@
--- A point's reads: the list has one at least, and the sum of it as it goes out is the sum of all its products. Assumes nothing.
+-- A point's reads: the list has one at least, and the sum of it as it goes out is the sum of all its products. The slope of a mode that does
+-- not go by the curve. Assumes nothing.
 use Prim.Native.Nat.{ℕ, _≤_}
 use mathlib.Core.Path.{_≡_, ap, _∙_}
 use mathlib.Core.Bool.{Bool, false, _||_}
@@ -6,6 +7,7 @@ use mathlib.Core.List.{List}
 use lib.Dec.{T, eqb}
 use lib.Ieee.{Float, binary32, fits}
 use Rattle.floats.specs.Steps.{_>>=_, if_then_else_}
+use Rattle.modes.specs.Mode.{numberOf, RemapDrawn, RemapMirrored, RemapQuad}
 use Rattle.modes.specs.Choice.{caseOf}
 use Rattle.limits.proofs.LineLaws.{or-false}
 use Rattle.reads.specs.Reads.{startOf, outgoingOf, cycleAt, readSum}
@@ -16,12 +18,9 @@ use Rattle.phase.specs.Sums.{applyIf, shiftIf}
 use Rattle.phase.proofs.Alone.{Alone, start-alone, alone-if, all-products}
 use Rattle.voice.specs.PhaseRun.{inPhase}
 use Rattle.preview.specs.declared.points.MapSetting.{MapSetting}
-use Rattle.preview.specs.Points.{Steepest, mapSetting, drawnReads, pointOf}
+use Rattle.preview.specs.Points.{Steepest, mapSetting, IsSet, drawnReads, pointOf}
 
 -- ---- a slot's map that is set as it should be
-abbrev pub IsSet : MapSetting → Type 0
-IsSet m = m ≡ mapSetting (m .slot) (m .amount) (m .half)
-
 pub is-set : (slot : Slot) (a h : Float) (m : MapSetting) → m ≡ mapSetting slot a h → IsSet m
 unfolding mapSetting
 is-set slot a h m e = rw e
@@ -71,9 +70,9 @@ unfolding drawnReads applyIf startOf outgoingOf readSum if_then_else_ _>>=_
 plain-point sk ak curve cycle slot0 a0 h0 slot1 a1 h1 word e0 e1 F = products sk ak curve slot0 a0 h0 slot1 a1 h1 word cycle (cycleAt cycle word) (rw (e0, e1)) F
 
 -- ---- a slope that does not go by the curve
-pub any-steepest : (mode : ℕ) (curve : List Float) (s : Float) → (eqb mode 11 || eqb mode 12 || eqb mode 14) ≡ false → Steepest mode curve s
+pub any-steepest : (mode : ℕ) (curve : List Float) (s : Float) → (eqb mode (numberOf RemapDrawn) || eqb mode (numberOf RemapMirrored) || eqb mode (numberOf RemapQuad)) ≡ false → Steepest mode curve s
 unfolding stretchOf slopeOf caseOf _>>=_
 any-steepest mode curve s e =
-    let two = or-false (eqb mode 11 || eqb mode 12) (eqb mode 14) e in
-    let one = or-false (eqb mode 11) (eqb mode 12) (two .0) in
-    record { alike = λ a. rw (one .0, one .1, two .1) }
+    let first = or-false (eqb mode (numberOf RemapDrawn) || eqb mode (numberOf RemapMirrored)) (eqb mode (numberOf RemapQuad)) e in
+    let both = or-false (eqb mode (numberOf RemapDrawn)) (eqb mode (numberOf RemapMirrored)) (first .0) in
+    record { alike = λ a. rw (both .0, both .1, first .1) }

@@ -82,8 +82,8 @@ module _ (step : Float → Svf → Filtered) (xs : List Float) (start : Svf) whe
   unfolding passTo
   pass-more i s r h e = rw (add-one, e, h)
 
-  pub drawn : (i : ℕ) (s : Svf) (r : Filtered) → s ≡ passTo step xs start i → r ≡ step (getD xs i nan) s → r .y ≡ drawnAt step xs start i
-  drawn i s r h e = rw (e, h)
+  pub point-drawn : (i : ℕ) (s : Svf) (r : Filtered) → s ≡ passTo step xs start i → r ≡ step (getD xs i nan) s → r .y ≡ drawnAt step xs start i
+  point-drawn i s r h e = rw (e, h)
 
   pub settled-none : start ≡ settledTo step xs start 0
   unfolding settledTo

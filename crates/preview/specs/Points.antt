@@ -30,7 +30,7 @@ wordAt points i = i * 2 ^ 32 / points
 unfoldable pub incrementOf : ℕ → Float
 incrementOf points = 1f ⊘ Ieee.ofInt binary32 (pos points)
 
--- s does for the curve's steepest slope in the mode's own
+-- the mode's slope is the same with s as with the curve's steepest
 pub record Steepest (mode : ℕ) (curve : List Float) (s : Float) : Type 0 where
   pub alike : (a : Float) → stretchOf mode a s ≡ stretchOf mode a (steepestOf curve)
 
@@ -41,6 +41,10 @@ innerOf mode a curve = if inPhase mode then stretchOf mode a (steepestOf curve) 
 -- what of a slot's map goes by no point; h is its half width
 unfoldable pub mapSetting : Slot → Float → Float → MapSetting
 mapSetting slot a h = record { on = inPhase (slot .mode); slot = slot; amount = a; power = mapPower (slot .mode) a; half = h }
+
+-- m is what `mapSetting` makes of its own numbers
+abbrev pub IsSet : MapSetting → Type 0
+IsSet m = m ≡ mapSetting (m .slot) (m .amount) (m .half)
 
 -- slot 1's map, then slot 0's; h0 and h1 are their half widths
 unfoldable pub drawnReads : List Float → List Float → List Float → Slot → Float → Float → Slot → Float → Float → ℕ → ReadList

@@ -14,7 +14,7 @@ pub record Ran (answer : ℕ → Float) (before after : List Float) (r : ℕ) : 
   pub made : (k : ℕ) → k < r → getD after k nan ≡ answer k
   pub kept : (k : ℕ) → r ≤ k → getD after k nan ≡ getD before k nan
 
--- they are the cycle's at their words, which are f32s
+-- each of them is the cycle's number at its word, and that number is an f32
 pub record PlainRead (cycle before after : List Float) (r : ℕ) : Type 0 where
   pub ran : Ran (λ k. cycleAt cycle (wordAt (length before) k)) before after r
   pub held : (k : ℕ) → k < r → T (fits binary32 (cycleAt cycle (wordAt (length before) k)))

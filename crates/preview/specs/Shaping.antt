@@ -35,7 +35,7 @@ settledOf sk slot a increment xs = do
   k ← dampingOf (slot .character)
   filteredOf (filterOf sk (slot .mode) harmonic increment k) xs
 
--- a slot in the wave stage, but for one that reads a source, which draws as though it were silent
+-- a slot in the wave stage; one that reads a source does nothing, as in a run where its source is absent
 unfoldable pub shapedOf : List Float → Slot → Float → Float → List Float → List Float
 shapedOf sk slot a increment xs =
     if inWave (slot .mode) && not (hasSource (slot .mode))

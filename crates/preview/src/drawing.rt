@@ -15,7 +15,7 @@ ghost use mathlib.Core.Path.{_≡_};
 ghost use Prim.Native.Nat.{_≤_, _<_};
 ghost use lib.ListN.{length};
 ghost use Rattle.floats.specs.Exp2.{entries};
-ghost use Rattle.preview.specs.Points.{mapSetting};
+ghost use Rattle.preview.specs.Points.{IsSet};
 ghost use Rattle.preview.specs.Runs.{PlainRead};
 ghost use Rattle.preview.specs.Picture.{readOf, pictureOf};
 
@@ -28,7 +28,7 @@ fn read_mapped(
     map1: MapSetting,
     picture: &mut [f32],
 )
-    requires { ⌜ map0 ≡ mapSetting (map0 .slot) (map0 .amount) (map0 .half) ⌝ ∗ ⌜ map1 ≡ mapSetting (map1 .slot) (map1 .amount) (map1 .half) ⌝ }
+    requires { ⌜ IsSet map0 ⌝ ∗ ⌜ IsSet map1 ⌝ }
     requires { ⌜ 1024 < length (now curve) ⌝ ∗ ⌜ 2048 ≤ length (now cycle) ⌝ ∗ ⌜ length (now picture) ≤ 4096 ⌝ }
     ensures { λ _. ⌜ now (picture .exit) ≡ readOf numbers (now (curve .entry)) (now (cycle .entry))
         (map0 .slot) (map0 .amount) (map0 .half) (map1 .slot) (map1 .amount) (map1 .half) (length (now (picture .entry))) ⌝ }
@@ -61,7 +61,7 @@ fn read(
     map1: MapSetting,
     picture: &mut [f32],
 )
-    requires { ⌜ map0 ≡ mapSetting (map0 .slot) (map0 .amount) (map0 .half) ⌝ ∗ ⌜ map1 ≡ mapSetting (map1 .slot) (map1 .amount) (map1 .half) ⌝ }
+    requires { ⌜ IsSet map0 ⌝ ∗ ⌜ IsSet map1 ⌝ }
     requires { ⌜ 1024 < length (now curve) ⌝ ∗ ⌜ 2048 ≤ length (now cycle) ⌝ ∗ ⌜ length (now picture) ≤ 4096 ⌝ }
     ensures { λ _. ⌜ now (picture .exit) ≡ readOf numbers (now (curve .entry)) (now (cycle .entry))
         (map0 .slot) (map0 .amount) (map0 .half) (map1 .slot) (map1 .amount) (map1 .half) (length (now (picture .entry))) ⌝ }

@@ -53,7 +53,7 @@ pub fn preview_taken(
 }
 
 // One cycle through both slots at amounts in percent, as many points as `picture` has, from phase 0.
-// Edges are drawn sharp, filters settled, and a mode with a source as though it were silent.
+// Edges are drawn sharp, filters after 15 cycles, and a mode with a source as though it had none.
 pub fn preview(
     slot0: Slot,
     slot1: Slot,

@@ -17,7 +17,7 @@ ghost use lib.Dec.{T};
 ghost use lib.ListN.{length};
 ghost use lib.Ieee.{binary32, fits};
 ghost use Rattle.floats.specs.Exp2.{entries};
-ghost use Rattle.preview.specs.Points.{amountOf, wordAt, incrementOf, Steepest, innerOf, mapSetting, pointOf};
+ghost use Rattle.preview.specs.Points.{amountOf, wordAt, incrementOf, Steepest, innerOf, mapSetting, IsSet, pointOf};
 
 // A slot's map for all points of a picture, with half the width of its edges. `on` is whether the slot is
 // in the phase stage.
@@ -88,7 +88,7 @@ pub fn map_setting(powers: &[u32; 257], slot: Slot, amount: f32, half: f32) -> M
     }
 }
 
-// That a float is one of f32's, which a proof learns of a parameter.
+// Hands `x` back. Its contract is where a proof learns that `x` is an f32.
 pub fn held(x: f32) -> f32
     ensures { λ r. ⌜ (r ≡ x) × T (fits binary32 x) ⌝ }
 {
@@ -104,7 +104,7 @@ pub fn point(
     map1: MapSetting,
     word: u32,
 ) -> f32
-    requires { ⌜ map0 ≡ mapSetting (map0 .slot) (map0 .amount) (map0 .half) ⌝ ∗ ⌜ map1 ≡ mapSetting (map1 .slot) (map1 .amount) (map1 .half) ⌝ }
+    requires { ⌜ IsSet map0 ⌝ ∗ ⌜ IsSet map1 ⌝ }
     requires { ⌜ 1024 < length (now curve) ⌝ ∗ ⌜ 2048 ≤ length (now cycle) ⌝ }
     ensures { λ r. ⌜ r ≡ pointOf (numbers .sin) (numbers .atan) (now (curve .entry)) (now (cycle .entry))
         (map0 .slot) (map0 .amount) (map0 .half) (map1 .slot) (map1 .amount) (map1 .half) word ⌝ }

@@ -53,7 +53,7 @@ fn filter_picture(
     draw_pass(slot.mode, g, k, state, picture);
 }
 
-// A slot's part. One that reads a source draws as though it were silent.
+// A slot's part. One that reads a source does nothing, as in a run where its source is absent.
 pub fn shape_slot(
     powers: &[u32; 257],
     numbers: Numbers,

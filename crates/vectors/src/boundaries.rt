@@ -141,12 +141,12 @@ fn among(number: u32, first: u32, last: u32) -> u32 {
 
 // A picture has no lanes.
 fn kept(b: Boundary) -> bool {
-    let drawn = if b.number == 3 { 0 } else { b.number };
+    let expected = if b.number == 3 { 0 } else { b.number };
     (prepare_number(b) == b.number)
         & (run_number(b) == b.number)
         & (decimate_number(b) == among(b.number, 2, 6))
         & (curve_number(b) == among(b.number, 7, 7))
-        & (picture_number(b) == drawn)
+        & (picture_number(b) == expected)
 }
 
 // How many of them are kept.

@@ -1,7 +1,7 @@
 -- `drawing::draw` meets its contract. Assumes nothing.
 use borrow.Author.Needs.{needs}
 use Rattle.preview.proofs.PointLaws.{is-set}
-use Rattle.preview.proofs.PictureLaws.{drawn}
+use Rattle.preview.proofs.PictureLaws.{picture-drawn}
 use Rattle.preview.proofs.drawing.draw.Statement.{statement}
 use Rattle.preview.proofs.drawing.draw.Tie as tie
 
@@ -31,7 +31,7 @@ returns c =
     let once = c .before .before .before .before .before .before in
     let r = read (once .before) in
     let inner = set (r .before) in
-    drawn _ _ _ _ _ _ _ _ _ _ _ _ _ _ _ _ _ (inner .before .before .before .increment-of .ensures) (inner .before .before .amount-of .ensures) (inner .before .amount-of2 .ensures) (inner .inner-of .ensures) (r .before .before .before .map-setting .ensures) (r .before .before .map-setting2 .ensures) (r .read .ensures) (once .shape-slot .ensures) (c .before .before .shape-slot2 .ensures)
+    picture-drawn _ _ _ _ _ _ _ _ _ _ _ _ _ _ _ _ _ (inner .before .before .before .increment-of .ensures) (inner .before .before .amount-of .ensures) (inner .before .amount-of2 .ensures) (inner .inner-of .ensures) (r .before .before .before .map-setting .ensures) (r .before .before .map-setting2 .ensures) (r .read .ensures) (once .shape-slot .ensures) (c .before .before .shape-slot2 .ensures)
 
 pub draw-spec : {M : Type 1} → statement M
 draw-spec =

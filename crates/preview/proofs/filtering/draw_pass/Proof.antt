@@ -10,7 +10,7 @@ use Rattle.wave.specs.declared.filters.Filtered.{Filtered}
 use Rattle.wave.specs.Filter.{filterWith}
 use Rattle.preview.specs.Runs.{Ran}
 use Rattle.preview.specs.Filtering.{passTo, drawnAt}
-use Rattle.preview.proofs.RunLaws.{ran-none, ran-more, pass-none, pass-more, drawn}
+use Rattle.preview.proofs.RunLaws.{ran-none, ran-more, pass-none, pass-more, point-drawn}
 use Rattle.preview.proofs.filtering.draw_pass.Statement.{statement}
 use Rattle.preview.proofs.filtering.draw_pass.Tie as tie
 
@@ -30,7 +30,7 @@ loop-again c =
     let l = c .before .before .before .before .loop in
     let same = l .inv .2 .kept (l .i) (omega arith) in
     let said = rw same at (c .before .filter-with .ensures) in
-    (omega (arith, c .before .before .before .loop-test .taken), l .inv .1, ran-more _ _ _ _ _ (inside (c .before .before .before)) (l .inv .2) (drawn _ _ _ _ _ _ (l .inv .3) said), pass-more _ _ _ _ _ _ (l .inv .3) said)
+    (omega (arith, c .before .before .before .loop-test .taken), l .inv .1, ran-more _ _ _ _ _ (inside (c .before .before .before)) (l .inv .2) (point-drawn _ _ _ _ _ _ (l .inv .3) said), pass-more _ _ _ _ _ _ (l .inv .3) said)
 
 returns : tie.Need-returns Inv-loop μ-loop
 returns c =
