@@ -4,7 +4,6 @@ pub mod Read
 pub mod Patterns
 pub mod Values
 pub mod Exact
-pub mod Ones
 pub mod Fractions
 pub mod Entries
 pub mod PowerCases

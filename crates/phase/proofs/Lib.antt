@@ -1,5 +1,5 @@
 pub mod MapLaws
 pub mod Few
-pub mod Alone
+pub mod Some
 pub mod Powers
 pub mod SumLaws

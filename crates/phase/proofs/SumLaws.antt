@@ -14,7 +14,7 @@ use Rattle.reads.specs.Reads.{startOf, emptyOf, weightedOf, pushOf, moveFirst, 
 use Rattle.reads.specs.Branches.{appended, Makes}
 use Rattle.phase.specs.declared.map.Slot.{Slot}
 use Rattle.phase.specs.Map.{mapOf, mapped, emptied, applyOf}
-use Rattle.phase.specs.Sums.{mapIf, applyIf, shiftIf, readAt, productsAfter, productsOf, sumOne, sumTwo}
+use Rattle.phase.specs.Sums.{mapIf, applyIf, shiftIf, allProducts, readAt, productsAfter, productsOf, sumOne, sumTwo}
 
 -- the sum of a list as it goes out
 abbrev pub sumOf : List Float → Bool → ℕ → ReadList → Float
@@ -171,3 +171,66 @@ module _ (cycle : List Float) (moves : Bool) (offset : ℕ) (sk ak table : List 
       ∙ ap (sumOf cycle moves offset) (applied-two sk ak table slot0 a0 h0 word reads first second k n p)
       ∙ two-sum cycle moves offset (reads .word0) first second)
   sum-two false reads first second e k m n p = absurd (true≢false e)
+
+-- ---- all products: the same, by the branches, of reads that don't move
+all-by : (cycle : List Float) (like : ℕ) (plain t₀ t₂ : Bool) (w : ℕ) (g : Float) (v : ℕ) (k : Float)
+    → allProducts cycle (added t₀ t₂ w g v k (none like plain)) ≡ after cycle false 0 t₂ v k (g ⊗ readAt cycle false 0 w)
+unfolding if_then_else_ pushOf weightedOf allProducts sumTo readAt
+all-by cycle like plain true true w g v k = refl
+all-by cycle like plain true false w g v k = refl
+all-by cycle like plain false true w g v k = refl
+all-by cycle like plain false false w g v k = refl
+
+one-products : (cycle : List Float) (like : ℕ) (plain : Bool) (b : Branches) → allProducts cycle (appended b (none like plain)) ≡ productsOf cycle false 0 b
+unfolding productsOf productsAfter
+one-products cycle like plain b = rw (opened b (none like plain)) (all-by cycle like plain (eqb (b .kind) 0) (eqb (b .kind) 2) (b .word0) (b .gain0) (b .word1) (b .gain1))
+
+all-two-by : (cycle : List Float) (like : ℕ) (s₂ t₂ : Bool) (w : ℕ) (g : Float) (v : ℕ) (k : Float) (w′ : ℕ) (g′ : Float) (v′ : ℕ) (k′ : Float)
+    → allProducts cycle (onto t₂ w′ g′ v′ k′ (onto s₂ w g v k (none like false)))
+    ≡ after cycle false 0 t₂ v′ k′ (after cycle false 0 s₂ v k (g ⊗ readAt cycle false 0 w) ⊕ g′ ⊗ readAt cycle false 0 w′)
+unfolding if_then_else_ pushOf allProducts sumTo readAt
+all-two-by cycle like true true w g v k w′ g′ v′ k′ = refl
+all-two-by cycle like true false w g v k w′ g′ v′ k′ = refl
+all-two-by cycle like false true w g v k w′ g′ v′ k′ = refl
+all-two-by cycle like false false w g v k w′ g′ v′ k′ = refl
+
+two-products : (cycle : List Float) (like : ℕ) (a b : Branches) → allProducts cycle (appended b (appended a (none like false))) ≡ sumTwo cycle false 0 a b
+unfolding sumTwo productsOf productsAfter
+two-products cycle like a b =
+    rw (opened-counted a (none like false) (none-counted like), opened-counted b _ (onto-counted like (eqb (a .kind) 2) (a .word0) (a .gain0) (a .word1) (a .gain1)))
+    (all-two-by cycle like (eqb (a .kind) 2) (eqb (b .kind) 2) (a .word0) (a .gain0) (a .word1) (a .gain1) (b .word0) (b .gain0) (b .word1) (b .gain1))
+
+module _ (cycle sk ak table : List Float) (slot0 : Slot) (a0 h0 : Float) (on1 : Bool) (slot1 : Slot) (a1 h1 : Float) (word : ℕ) where
+  abbrev every : Bool → Float
+  every on0 = allProducts cycle (applyIf on0 sk ak table slot0 a0 h0 (applyIf on1 sk ak table slot1 a1 h1 (startOf word)))
+
+  -- slot 0 is off
+  pub every-off : (on0 : Bool) (reads : Branches) → not on0 ≡ true → Makes reads (mapIf on1 sk ak table slot1 a1 h1 word) → productsOf cycle false 0 reads ≡ every on0
+  unfolding applyIf if_then_else_
+  every-off true reads e m = absurd (true≢false (sym e))
+  every-off false reads e m = sym (ap (allProducts cycle) (started sk ak table slot1 a1 h1 on1 word reads m) ∙ one-products cycle word true reads)
+
+  -- slot 1 makes one read
+  pub every-one : (on0 : Bool) (reads first : Branches) → not on0 ≡ false → eqb (reads .kind) 2 ≡ false
+      → Makes reads (mapIf on1 sk ak table slot1 a1 h1 word) → Makes first (mapOf sk ak table slot0 a0 h0 (reads .word0) (reads .gain0))
+      → productsOf cycle false 0 first ≡ every on0
+  unfolding applyIf if_then_else_
+  every-one true reads first e k m n =
+      sym
+      (ap (λ (list : ReadList). allProducts cycle (applyOf sk ak table slot0 a0 h0 list)) (started sk ak table slot1 a1 h1 on1 word reads m)
+      ∙ ap (allProducts cycle) (applied-one sk ak table slot0 a0 h0 word reads first k n)
+      ∙ one-products cycle (reads .word0) (eqb (reads .kind) 0) first)
+  every-one false reads first e k m n = absurd (true≢false e)
+
+  -- slot 1 makes two
+  pub every-two : (on0 : Bool) (reads first second : Branches) → not on0 ≡ false → reads .kind ≡ 2
+      → Makes reads (mapIf on1 sk ak table slot1 a1 h1 word)
+      → Makes first (mapOf sk ak table slot0 a0 h0 (reads .word0) (reads .gain0)) → Makes second (mapOf sk ak table slot0 a0 h0 (reads .word1) (reads .gain1))
+      → sumTwo cycle false 0 first second ≡ every on0
+  unfolding applyIf if_then_else_
+  every-two true reads first second e k m n p =
+      sym
+      (ap (λ (list : ReadList). allProducts cycle (applyOf sk ak table slot0 a0 h0 list)) (started sk ak table slot1 a1 h1 on1 word reads m)
+      ∙ ap (allProducts cycle) (applied-two sk ak table slot0 a0 h0 word reads first second k n p)
+      ∙ two-products cycle (reads .word0) first second)
+  every-two false reads first second e k m n p = absurd (true≢false e)

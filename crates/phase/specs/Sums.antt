@@ -1,5 +1,5 @@
 -- What reads add up to, by the branches that they come in. `moves` and `offset` are how the reads move on. Definitions only.
-use Prim.Native.Nat.{ℕ}
+use Prim.Native.Nat.{ℕ, _-_}
 use mathlib.Core.Bool.{Bool, _&&_}
 use mathlib.Core.List.{List}
 use lib.Dec.{eqb}
@@ -9,7 +9,7 @@ use Rattle.floats.specs.Steps.{if_then_else_}
 use Rattle.lanes.specs.Word.{addWords}
 use Rattle.reads.specs.declared.lists.ReadList.{ReadList}
 use Rattle.reads.specs.declared.branches.Branches.{Branches}
-use Rattle.reads.specs.Reads.{pushOf, shiftOf, cycleAt}
+use Rattle.reads.specs.Reads.{pushOf, shiftOf, cycleAt, sumTo}
 use Rattle.reads.specs.Branches.{kindOne, kindBoth}
 use Rattle.phase.specs.declared.map.Slot.{Slot}
 use Rattle.phase.specs.Map.{mapOf, applyOf}
@@ -25,6 +25,11 @@ unfoldable pub shiftIf : Bool → ℕ → ReadList → ReadList
 shiftIf moves offset list = if moves then shiftOf list offset else list
 
 -- ---- the sums
+
+-- all of a list's products, from the first on, whether its gains count or not; a list has one read at least (proofs/Some)
+unfoldable pub allProducts : List Float → ReadList → Float
+allProducts cycle list = sumTo cycle (list .word) (list .gain) (list .count - 1)
+
 unfoldable pub readAt : List Float → Bool → ℕ → ℕ → Float
 readAt cycle moves offset word = if moves then cycleAt cycle (addWords word offset) else cycleAt cycle word
 

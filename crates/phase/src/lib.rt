@@ -9,4 +9,5 @@ pub use map::Slot;
 pub use map::apply;
 pub use map::apply_with;
 pub use power::map_power;
+pub use sums::mapped_products;
 pub use sums::mapped_sum;

@@ -16,7 +16,7 @@ ghost use mathlib.Core.Bool.{true};
 ghost use Rattle.reads.specs.Reads.{startOf, outgoingOf, readSum};
 ghost use Rattle.reads.specs.Branches.{Makes};
 ghost use Rattle.phase.specs.Power.{mapPower};
-ghost use Rattle.phase.specs.Sums.{readAt, productsAfter, productsOf, sumOne, sumTwo, mapIf, applyIf, shiftIf};
+ghost use Rattle.phase.specs.Sums.{readAt, productsAfter, productsOf, sumOne, sumTwo, mapIf, applyIf, shiftIf, allProducts};
 
 fn read_at(cycle: &[f32], moves: bool, offset: u32, word: u32) -> f32
     requires { ⌜ 2048 ≤ length (now cycle) ⌝ }
@@ -144,4 +144,60 @@ pub fn mapped_sum(
         return sum_two(cycle, moves, offset, first, second);
     }
     sum_one(cycle, moves, offset, kind == KIND_ONE, first)
+}
+
+// The same with the product of every read, also of one whose gain does not count, and with no reads that
+// move on: for a picture. It is not a case of `mapped_sum`, which the compiler puts into the block run's
+// loop as long as nothing else calls it.
+pub fn mapped_products(
+    numbers: Numbers,
+    curve: &[f32],
+    cycle: &[f32],
+    on0: bool,
+    slot0: Slot,
+    amount0: f32,
+    power0: f32,
+    half0: f32,
+    on1: bool,
+    slot1: Slot,
+    amount1: f32,
+    power1: f32,
+    half1: f32,
+    word: u32,
+) -> f32
+    requires { ⌜ (on0 ≡ true → power0 ≡ mapPower (slot0 .mode) amount0) ⌝ ∗ ⌜ (on1 ≡ true → power1 ≡ mapPower (slot1 .mode) amount1) ⌝ }
+    requires { ⌜ 1024 < length (now curve) ⌝ ∗ ⌜ 2048 ≤ length (now cycle) ⌝ }
+    ensures { λ r. ⌜ r ≡ allProducts (now (cycle .entry))
+        (applyIf on0 (numbers .sin) (numbers .atan) (now (curve .entry)) slot0 amount0 half0
+        (applyIf on1 (numbers .sin) (numbers .atan) (now (curve .entry)) slot1 amount1 half1 (startOf word))) ⌝ }
+{
+    let reads = map_if(numbers, curve, on1, slot1, amount1, power1, half1, word);
+    let kind = reads.kind;
+    if !on0 {
+        return products(cycle, false, 0, reads);
+    }
+    let first = map(
+        numbers,
+        curve,
+        slot0,
+        amount0,
+        power0,
+        half0,
+        reads.word0,
+        reads.gain0,
+    );
+    if kind == KIND_BOTH {
+        let second = map(
+            numbers,
+            curve,
+            slot0,
+            amount0,
+            power0,
+            half0,
+            reads.word1,
+            reads.gain1,
+        );
+        return sum_two(cycle, false, 0, first, second);
+    }
+    products(cycle, false, 0, first)
 }

@@ -8,19 +8,16 @@ use native.Mathlib.Numerals.{add-one}
 use native.Mathlib.Omega.{arith}
 use lib.ListN.{length, getD, set, length-set}
 use lib.Seq.{getD-set-same, getD-set-other, ext-getD}
-use lib.Dec.{T}
-use lib.Ieee.{Float, nan, binary32, fits}
+use lib.Ieee.{Float, nan}
 use Rattle.grid.specs.Functions.{table}
 use Rattle.grid.proofs.TableLaws.{length-table, getD-table}
 use Rattle.wave.specs.declared.filters.Svf.{Svf}
 use Rattle.wave.specs.declared.filters.Filtered.{Filtered}
 use Rattle.lanes.specs.declared.maths.Numbers.{Numbers}
-use Rattle.reads.specs.Reads.{cycleAt}
 use Rattle.phase.specs.declared.map.Slot.{Slot}
 use Rattle.voice.specs.PhaseRun.{inPhase}
-use Rattle.preview.specs.Points.{wordAt}
 use Rattle.preview.specs.Picture.{readOf}
-use Rattle.preview.specs.Runs.{Ran, PlainRead}
+use Rattle.preview.specs.Runs.{Ran, plainAt}
 use Rattle.preview.proofs.PointLaws.{plain-point}
 use Rattle.preview.specs.Filtering.{passTo, settledTo, drawnAt, silent, filteredOf}
 
@@ -46,30 +43,17 @@ ran-done answer before after r =
     (λ i l. let low : i < length before = omega (arith, r .long) in r .made i low ∙ sym (getD-table (length before) answer i nan low))
 
 -- ---- a picture that no slot maps
-module _ (cycle before : List Float) where
-  pub plain-none : PlainRead cycle before before 0
-  plain-none = record { ran = ran-none _ before; held = λ k h. absurd (omega arith) }
-
-  pub plain-more : (now : List Float) (i : ℕ) (v : Float) → i < length now → PlainRead cycle before now i
-      → v ≡ cycleAt cycle (wordAt (length before) i) → T (fits binary32 v)
-      → PlainRead cycle before (set now i v) (i + 1)
-  plain-more now i v h r e F = record { ran = ran-more _ before now i v h (r .ran) e; held = λ k l. go k l (ℕ-discrete k i) }
-    where
-      go : (k : ℕ) → k < i + 1 → Dec (k ≡ i) → T (fits binary32 (cycleAt cycle (wordAt (length before) k)))
-      go k l (yes q) = rw (q, ← e) F
-      go k l (no q) = r .held k (omega arith)
-
-  pub plain-done : (numbers : Numbers) (curve after : List Float) (slot0 : Slot) (a0 h0 : Float) (slot1 : Slot) (a1 h1 : Float)
-      → inPhase (slot0 .mode) ≡ false → inPhase (slot1 .mode) ≡ false → PlainRead cycle before after (length before)
-      → after ≡ readOf numbers curve cycle slot0 a0 h0 slot1 a1 h1 (length before)
-  unfolding readOf
-  plain-done numbers curve after slot0 a0 h0 slot1 a1 h1 e0 e1 r =
-      ran-done _ before after
-      (record {
-        long = r .ran .long;
-        made = λ k l. r .ran .made k l ∙ plain-point (numbers .sin) (numbers .atan) curve cycle slot0 a0 h0 slot1 a1 h1 _ e0 e1 (r .held k l);
-        kept = r .ran .kept;
-      })
+pub plain-done : (cycle before after curve : List Float) (numbers : Numbers) (slot0 : Slot) (a0 h0 : Float) (slot1 : Slot) (a1 h1 : Float)
+    → inPhase (slot0 .mode) ≡ false → inPhase (slot1 .mode) ≡ false → Ran (plainAt cycle (length before)) before after (length before)
+    → after ≡ readOf numbers curve cycle slot0 a0 h0 slot1 a1 h1 (length before)
+unfolding readOf
+plain-done cycle before after curve numbers slot0 a0 h0 slot1 a1 h1 e0 e1 r =
+    ran-done _ before after
+    (record {
+      long = r .long;
+      made = λ k l. r .made k l ∙ plain-point (numbers .sin) (numbers .atan) curve cycle slot0 a0 h0 slot1 a1 h1 _ e0 e1;
+      kept = r .kept;
+    })
 
 -- ---- a filter's state
 

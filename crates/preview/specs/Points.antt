@@ -1,5 +1,5 @@
 -- A point of a picture: where it reads, and what its reads add up to. Definitions only.
-use Prim.Native.Nat.{ℕ, _-_, _*_, _/_, _^_}
+use Prim.Native.Nat.{ℕ, _*_, _/_, _^_}
 use mathlib.Core.Path.{_≡_}
 use mathlib.Core.List.{List}
 use lib.IntN.{pos}
@@ -10,12 +10,12 @@ use Rattle.floats.specs.Steps.{_>>=_, if_then_else_}
 use Rattle.lanes.specs.Maths.{clampOf}
 use Rattle.curve.specs.Curve.{steepestOf}
 use Rattle.reads.specs.declared.lists.ReadList.{ReadList}
-use Rattle.reads.specs.Reads.{startOf, sumTo}
+use Rattle.reads.specs.Reads.{startOf}
 use Rattle.slope.specs.Slope.{stretchOf}
 use Rattle.phase.specs.declared.map.Slot.{Slot}
-use Rattle.phase.specs.Power.{mapPower}
-use Rattle.phase.specs.Sums.{applyIf}
+use Rattle.phase.specs.Sums.{applyIf, allProducts}
 use Rattle.voice.specs.PhaseRun.{inPhase}
+use Rattle.voice.specs.Power.{powerOf}
 use Rattle.preview.specs.declared.points.MapSetting.{MapSetting}
 
 -- (self.slots[slot].amount / 100.0).clamp(0.0, 1.0)
@@ -40,7 +40,7 @@ innerOf mode a curve = if inPhase mode then stretchOf mode a (steepestOf curve) 
 
 -- what of a slot's map goes by no point; h is its half width
 unfoldable pub mapSetting : Slot → Float → Float → MapSetting
-mapSetting slot a h = record { on = inPhase (slot .mode); slot = slot; amount = a; power = mapPower (slot .mode) a; half = h }
+mapSetting slot a h = record { on = inPhase (slot .mode); slot = slot; amount = a; power = powerOf (slot .mode) a; half = h }
 
 -- m is what `mapSetting` makes of its own numbers
 abbrev pub IsSet : MapSetting → Type 0
@@ -57,4 +57,4 @@ drawnReads sk ak curve slot0 a0 h0 slot1 a1 h1 word = do
 unfoldable pub pointOf : List Float → List Float → List Float → List Float → Slot → Float → Float → Slot → Float → Float → ℕ → Float
 pointOf sk ak curve cycle slot0 a0 h0 slot1 a1 h1 word = do
   list ← drawnReads sk ak curve slot0 a0 h0 slot1 a1 h1 word
-  sumTo cycle (list .word) (list .gain) (list .count - 1)
+  allProducts cycle list

@@ -1,7 +1,6 @@
 // A picture's reads, and the whole of it.
 use crate::points::MapSetting;
 use crate::points::amount_of;
-use crate::points::held;
 use crate::points::increment_of;
 use crate::points::inner_of;
 use crate::points::map_setting;
@@ -16,7 +15,7 @@ ghost use Prim.Native.Nat.{_≤_, _<_};
 ghost use lib.ListN.{length};
 ghost use Rattle.floats.specs.Exp2.{entries};
 ghost use Rattle.preview.specs.Points.{IsSet};
-ghost use Rattle.preview.specs.Runs.{PlainRead};
+ghost use Rattle.preview.specs.Runs.{Ran, plainAt};
 ghost use Rattle.preview.specs.Picture.{readOf, pictureOf};
 
 // The sums of all points' reads, where a slot is in the phase stage.
@@ -40,15 +39,15 @@ fn read_mapped(
     }
 }
 
-// Where none is: the cycle at each point's word.
+// Where none is: the cycle at each point's word, with gain 1.
 fn read_plain(cycle: &[f32], picture: &mut [f32])
     requires { ⌜ 2048 ≤ length (now cycle) ⌝ ∗ ⌜ length (now picture) ≤ 4096 ⌝ }
-    ensures { λ _. ⌜ PlainRead (now (cycle .entry)) (now (picture .entry)) (now (picture .exit)) (length (now (picture .entry))) ⌝ }
+    ensures { λ _. ⌜ Ran (plainAt (now (cycle .entry)) (length (now (picture .entry)))) (now (picture .entry)) (now (picture .exit)) (length (now (picture .entry))) ⌝ }
 {
     let points = picture.len();
     for i in 0..points {
         let word = word_at(points, i);
-        picture[i] = held(read_cycle(cycle, word));
+        picture[i] = 1.0 * read_cycle(cycle, word);
     }
 }
 

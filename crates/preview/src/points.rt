@@ -7,15 +7,13 @@ use modes::numbers::REMAP_DRAWN;
 use modes::numbers::REMAP_MIRRORED;
 use modes::numbers::REMAP_QUAD;
 use phase::Slot;
-use phase::map_power;
-use phase::mapped_sum;
+use phase::mapped_products;
 use slope::stretch_of;
 use voice::in_phase;
+use voice::power_of;
 ghost use mathlib.Core.Path.{_≡_};
 ghost use Prim.Native.Nat.{_≤_, _<_};
-ghost use lib.Dec.{T};
 ghost use lib.ListN.{length};
-ghost use lib.Ieee.{binary32, fits};
 ghost use Rattle.floats.specs.Exp2.{entries};
 ghost use Rattle.preview.specs.Points.{amountOf, wordAt, incrementOf, Steepest, innerOf, mapSetting, IsSet, pointOf};
 
@@ -83,16 +81,9 @@ pub fn map_setting(powers: &[u32; 257], slot: Slot, amount: f32, half: f32) -> M
         on: in_phase(slot.mode),
         slot,
         amount,
-        power: map_power(powers, slot.mode, amount),
+        power: power_of(powers, slot.mode, amount),
         half,
     }
-}
-
-// Hands `x` back. Its contract is where a proof learns that `x` is an f32.
-pub fn held(x: f32) -> f32
-    ensures { λ r. ⌜ (r ≡ x) × T (fits binary32 x) ⌝ }
-{
-    x
 }
 
 // The sum of a point's reads.
@@ -111,7 +102,7 @@ pub fn point(
 {
     let slot0 = map0.slot;
     let slot1 = map1.slot;
-    let sum = mapped_sum(
+    mapped_products(
         numbers,
         curve,
         cycle,
@@ -125,9 +116,6 @@ pub fn point(
         map1.amount,
         map1.power,
         map1.half,
-        false,
-        0,
         word,
-    );
-    held(sum)
+    )
 }

@@ -1,6 +1,7 @@
 // A picture through a slot of the wave stage.
 use crate::filtering::draw_pass;
 use crate::filtering::settle;
+use crate::filtering::tangent;
 use lanes::Numbers;
 use modes::SourceFact;
 use phase::Slot;
@@ -9,7 +10,6 @@ use wave::damping;
 use wave::distort;
 use wave::in_wave;
 use wave::is_filter;
-use wave::tangent;
 ghost use mathlib.Core.Path.{_≡_};
 ghost use Rattle.floats.specs.Exp2.{entries};
 ghost use Rattle.preview.specs.Shaping.{hasSource, distortedOf, settledOf, shapedOf};

@@ -13,7 +13,6 @@ pub use filters::cutoff_harmonic;
 pub use filters::damping;
 pub use filters::filter;
 pub use filters::filter_with;
-pub use filters::tangent;
 pub use integrals::integral;
 pub use slots::Setting;
 pub use slots::in_wave;
