@@ -26,9 +26,6 @@ use modes::numbers::TAPE;
 use modes::numbers::VALVE;
 use modes::numbers::ZERO_SQUARE;
 ghost use mathlib.Core.Path.{_≡_};
-ghost use mathlib.Core.List.{List};
-ghost use lib.Ieee.{Float};
-ghost use Rattle.modes.specs.Mode.{numberOf, SineFold, SineShaper};
 ghost use Rattle.floats.specs.Exp2.{entries};
 ghost use Rattle.wave.specs.Curve.{valveCurve, softClipCurve, hardClipCurve, diode1Curve, diode2Curve, foldCurve, sineFoldCurve, zeroSquareCurve, asymmetricCurve, rectifyCurve, sineShaperCurve, pedalCurve, tapeCurve, softSaturateCurve, curveOf};
 
@@ -91,7 +88,7 @@ fn fold(x: f32) -> f32
     1.0 - abs(4.0 * (t - floor(t)) - 2.0)
 }
 
-pub fn sine_fold(numbers: Numbers, x: f32) -> f32
+fn sine_fold(numbers: Numbers, x: f32) -> f32
     ensures { λ r. ⌜ r ≡ sineFoldCurve (numbers .sin) x ⌝ }
 {
     sin_cycles(numbers, x * 0.25)
@@ -120,7 +117,7 @@ fn rectify(x: f32) -> f32
 }
 
 // A sine's quarter cycle as the curve: flat at ±1.
-pub fn sine_shaper(numbers: Numbers, x: f32) -> f32
+fn sine_shaper(numbers: Numbers, x: f32) -> f32
     ensures { λ r. ⌜ r ≡ sineShaperCurve (numbers .sin) x ⌝ }
 {
     let z = clamp(x, -FRAC_PI_2, FRAC_PI_2);
@@ -147,11 +144,11 @@ fn soft_saturate(x: f32) -> f32
     x / (1.0 + abs(x))
 }
 
-// The curves that take no sine. All that it is given goes in registers, so that it costs a caller little
-// where the compiler keeps it a function.
-pub fn unsined_curve(powers: &[u32; 257], mode: u32, x: f32) -> f32
-    requires { ⌜ now powers ≡ entries ⌝ ∗ ⌜ (mode ≡ numberOf SineFold → ⊥) × (mode ≡ numberOf SineShaper → ⊥) ⌝ }
-    ensures { λ r. ⌜ ((sk : List Float) → r ≡ curveOf sk mode x) ⌝ }
+// A distortion mode's curve, applied to `x` after the drive; a mode that is no distortion keeps it.
+// For Rectify, the rectifier alone.
+pub fn curve(powers: &[u32; 257], numbers: Numbers, mode: u32, x: f32) -> f32
+    requires { ⌜ now powers ≡ entries ⌝ }
+    ensures { λ r. ⌜ r ≡ curveOf (numbers .sin) mode x ⌝ }
 {
     match mode {
         VALVE => valve(powers, x),
@@ -160,9 +157,11 @@ pub fn unsined_curve(powers: &[u32; 257], mode: u32, x: f32) -> f32
         DIODE1 => diode1(powers, x),
         DIODE2 => diode2(powers, x),
         FOLD => fold(x),
+        SINE_FOLD => sine_fold(numbers, x),
         ZERO_SQUARE => zero_square(x),
         ASYMMETRIC => asymmetric(powers, x),
         RECTIFY => rectify(x),
+        SINE_SHAPER => sine_shaper(numbers, x),
         PEDAL => pedal(x),
         TAPE => tape(x),
         SOFT_SATURATE => soft_saturate(x),
@@ -170,15 +169,27 @@ pub fn unsined_curve(powers: &[u32; 257], mode: u32, x: f32) -> f32
     }
 }
 
-// A distortion mode's curve, applied to `x` after the drive; a mode that is no distortion keeps it.
-// For Rectify, the rectifier alone.
-pub fn curve(powers: &[u32; 257], numbers: Numbers, mode: u32, x: f32) -> f32
+// The same for `distort`, arm for arm: the compiler puts `curve` into the block run's loop as long as nothing
+// else calls it, and as a function it costs a run with a distortion a tenth of its time.
+pub fn plain_curve(powers: &[u32; 257], numbers: Numbers, mode: u32, x: f32) -> f32
     requires { ⌜ now powers ≡ entries ⌝ }
     ensures { λ r. ⌜ r ≡ curveOf (numbers .sin) mode x ⌝ }
 {
     match mode {
+        VALVE => valve(powers, x),
+        SOFT_CLIP => soft_clip(x),
+        HARD_CLIP => hard_clip(x),
+        DIODE1 => diode1(powers, x),
+        DIODE2 => diode2(powers, x),
+        FOLD => fold(x),
         SINE_FOLD => sine_fold(numbers, x),
+        ZERO_SQUARE => zero_square(x),
+        ASYMMETRIC => asymmetric(powers, x),
+        RECTIFY => rectify(x),
         SINE_SHAPER => sine_shaper(numbers, x),
-        _ => unsined_curve(powers, mode, x),
+        PEDAL => pedal(x),
+        TAPE => tape(x),
+        SOFT_SATURATE => soft_saturate(x),
+        _ => x,
     }
 }

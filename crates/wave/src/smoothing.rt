@@ -1,8 +1,6 @@
 // The distortions with their drive: as the preview draws them, and by the antiderivative method.
 use crate::curves::curve;
-use crate::curves::sine_fold;
-use crate::curves::sine_shaper;
-use crate::curves::unsined_curve;
+use crate::curves::plain_curve;
 use crate::filters::Filtered;
 use crate::filters::Svf;
 use crate::integrals::integral;
@@ -15,7 +13,6 @@ use lanes::pick;
 use modes::numbers::FOLD;
 use modes::numbers::RECTIFY;
 use modes::numbers::SINE_FOLD;
-use modes::numbers::SINE_SHAPER;
 ghost use mathlib.Core.Path.{_≡_};
 ghost use Rattle.floats.specs.Exp2.{entries};
 ghost use Rattle.wave.specs.Smooth.{mostOf, driveOf, gainOf, rectified, distortOf, drivenOf, apartOf, blendOf, smoothOf, distortSmooth};
@@ -62,17 +59,14 @@ fn blend_rectified(a: f32, x: f32) -> f32
     (abs(x) - x) * a + x
 }
 
-// A distortion mode's curve at amount `a` (0 to 1), applied to `x`, as the 2D preview draws it. It does not
-// call `curve`, which the compiler puts into the block run's loop as long as nothing else calls it.
+// A distortion mode's curve at amount `a` (0 to 1), applied to `x`, as the 2D preview draws it.
 pub fn distort(powers: &[u32; 257], numbers: Numbers, mode: u32, a: f32, x: f32) -> f32
     requires { ⌜ now powers ≡ entries ⌝ }
     ensures { λ r. ⌜ r ≡ distortOf (numbers .sin) mode a x ⌝ }
 {
     match mode {
         RECTIFY => blend_rectified(a, x),
-        SINE_FOLD => sine_fold(numbers, x * drive(powers, mode, a)),
-        SINE_SHAPER => sine_shaper(numbers, x * drive(powers, mode, a)),
-        _ => unsined_curve(powers, mode, x * drive(powers, mode, a)),
+        _ => plain_curve(powers, numbers, mode, x * drive(powers, mode, a)),
     }
 }
 
