@@ -10,7 +10,7 @@
  * In every call, also one that is turned down, the caller sees to this; where it doesn't, nothing is promised:
  *   - A pointer has as many numbers behind it as its count says. It is NULL only with count 0, and with count 0 it may
  *     be any.
- *   - It is aligned as its type, float or uint32_t, and needs no more than that.
+ *   - It is aligned as its type, float, uint32_t or uint8_t, and needs no more than that.
  *   - A buffer that is written overlaps no other buffer of the call. Those that are read may.
  *   - No one else writes a buffer of the call while it runs, or reads one that it writes.
  *   - The thread's floating-point mode is C's default: to nearest, and subnormal numbers are kept.
@@ -78,6 +78,9 @@ enum shaper_mode {
 #define SHAPER_MAX_COUNT 12 /* a design's count is 1 to this */
 #define SHAPER_SLOTS 2      /* slot 1 shapes what slot 0 made */
 #define SHAPER_SUB_BLOCK 32 /* host frames that share a row of a span */
+#define SHAPER_FILE_LIMIT 65536 /* a patch file's bytes are 0 to this */
+#define SHAPER_RECORD_BYTES 14  /* a record's of a patch file, its length among them */
+#define SHAPER_PATCH_BYTES 28   /* what shaper_patch_write writes: a record for each slot */
 
 /* How many numbers a buffer has at least, by the buffer's name: an array's size where the arguments are constant. Those
  * with arguments are of type size_t, and work each argument out once. */
@@ -118,7 +121,13 @@ enum shaper_refusal {
     SHAPER_BAD_RATE = 5,   /* the host rate is not 8,000..192,000 */
     SHAPER_BAD_DESIGN = 6, /* a design's count is not 1..12 (of any of the three, whether the factor uses it or not) */
     SHAPER_SHORT_READ = 7, /* a buffer that is read is too short */
-    SHAPER_SHORT_WRITE = 8 /* a buffer that is written is too short */
+    SHAPER_SHORT_WRITE = 8, /* a buffer that is written is too short */
+
+    /* Patch files: of the first record that any holds for, the first of the three; a writer's 8 comes after its 11. */
+    SHAPER_BAD_LENGTH = 9, /* the file is above 65,536 bytes (tested before all records); a record is cut short, or its
+                            * length is below 2 or wrong for a known kind */
+    SHAPER_BAD_KIND = 10,  /* a record's kind is not known */
+    SHAPER_BAD_FIELD = 11  /* a slot above 1, a mode above 69, hundredths or ten-thousandths above 10,000 */
 };
 
 /* What a call answers: SHAPER_ACCEPTED and its frames, or its refusal's number and no frames, and then every buffer is
@@ -302,6 +311,76 @@ struct shaper_answer shaper_preview(
     uint32_t mode0, uint32_t mode1, float character0, float character1, float amount0, float amount1,
     const float *numbers, size_t numbers_length, const float *curve, size_t curve_length, const float *cycle,
     size_t cycle_length, float *picture, size_t points);
+
+/* Patch files. A file is 0 to SHAPER_FILE_LIMIT bytes of records, one after the other to its end. Numbers have their
+ * low byte first. A record is a length of what follows it, a kind, and the kind's body; the one known kind is 1:
+ *
+ *     byte   0     2     4      5      6            8                 10            14
+ *            |  12 |   1 | slot | mode | hundredths | ten-thousandths |    serial   |
+ *
+ * Slot 0 or 1; mode 0 to 69 (enum shaper_mode); the amount in hundredths of a percent and the character in
+ * ten-thousandths, 0 to 10,000 each; any serial. Of each slot the record with the highest serial counts, of those with
+ * the same serial the last in the file, and a slot that has none is SHAPER_OFF with zeros. So a maker changes a patch
+ * by appending a record whose serial is at least the slot's highest.
+ *
+ * A file holds its patch whole or is turned away with none: for a length above the limit, whatever it holds, else for
+ * its first record that is not right, by SHAPER_BAD_LENGTH, SHAPER_BAD_KIND or SHAPER_BAD_FIELD, tested in this order.
+ * What stands behind that record is not looked at. A host lends a file whole; of one that may be longer than the limit
+ * it need not hold more than SHAPER_FILE_LIMIT + 1 bytes. */
+
+/* A slot of a patch: the file's numbers, and the floats that the card makes of them. */
+struct shaper_patch_slot {
+    uint32_t mode;
+    uint32_t hundredths;      /* of a percent */
+    uint32_t ten_thousandths; /* of the character */
+    float amount;             /* hundredths / 100, in percent: as base0, base1 and amount0, amount1 have it */
+    float character;          /* ten_thousandths / 10,000: as character0, character1 */
+};
+
+/* What a file holds, or SHAPER_BAD_LENGTH, _KIND or _FIELD with zeros in both slots. */
+struct shaper_patch {
+    uint32_t number; /* enum shaper_refusal */
+    uint32_t at;     /* turned away for a record: the byte at which it starts, a multiple of 14; else 0 */
+    struct shaper_patch_slot slot0;
+    struct shaper_patch_slot slot1;
+};
+
+/* What writing answers: SHAPER_ACCEPTED and its bytes, or its refusal's number and none. */
+struct shaper_written {
+    uint32_t number;
+    uint32_t bytes;
+};
+
+/* Whether two files hold the same patch: 1 or 0, and 0 where one is turned away. */
+struct shaper_same {
+    uint32_t number; /* of the first file that is turned away */
+    uint32_t same;
+};
+
+/* Reads a patch file.
+ *
+ *   file  read, every byte of it; it may have any length, none too (both slots are then SHAPER_OFF) */
+struct shaper_patch shaper_patch_read(const uint8_t *file, size_t file_length);
+
+/* Writes a patch file: slot 0's record and then slot 1's, of kind 1 and with serial 1, also for SHAPER_OFF. Reading its
+ * bytes gives the patch back.
+ *
+ *   mode0, mode1                          0 to 69
+ *   hundredths0, hundredths1              the amounts in hundredths of a percent, 0 to 10,000
+ *   ten_thousandths0, ten_thousandths1    the characters in ten-thousandths, 0 to 10,000
+ *   file                                  written, at least SHAPER_PATCH_BYTES, of which no more are touched
+ *
+ * Turned down by SHAPER_BAD_FIELD, for a mode too, and then SHAPER_SHORT_WRITE; then no byte is touched. */
+struct shaper_written shaper_patch_write(
+    uint32_t mode0, uint32_t hundredths0, uint32_t ten_thousandths0, uint32_t mode1, uint32_t hundredths1,
+    uint32_t ten_thousandths1, uint8_t *file, size_t file_length);
+
+/* Whether two files hold the same patch: both slots agree in mode and amount. Characters may differ. Two SHAPER_OFF
+ * slots with other amounts are not the same. A file that is turned away holds no patch and is the same as none, not as
+ * itself either.
+ *
+ *   a, b  read, as in shaper_patch_read; they may be the same buffer */
+struct shaper_same shaper_patch_same(const uint8_t *a, size_t a_length, const uint8_t *b, size_t b_length);
 
 /* The card's three designs: their coefficients as `coefs` takes them, and their counts. */
 static const float shaper_card_coefs[SHAPER_COEFS] = {

@@ -1,0 +1,27 @@
+-- What an accepted file is, and what stands before the record for which a file is turned away. Definitions only.
+use mathlib.Core.Path.{_≡_}
+use mathlib.Core.List.{List}
+use Prim.Native.Nat.{ℕ, _*_, _<_, _≤_}
+use lib.ListN.{length, take}
+use Rattle.files.specs.declared.records.Entry.{Entry}
+use Rattle.files.specs.Format.{limit, recordBytes, numberAt, recordsOf, AllValid}
+use Rattle.files.specs.Reader.{emptySlots, noPatch, acceptedAs, readingOf, heldOf}
+
+-- it is a list of valid records, and is read as them
+pub record Accepted (bytes : List ℕ) : Type 0 where
+  pub entries : List Entry
+  pub valid : AllValid entries
+  pub same : bytes ≡ recordsOf entries
+  pub reads : readingOf bytes ≡ acceptedAs (heldOf emptySlots entries)
+
+-- it holds no patch; the bytes before `at` are valid records; above the limit the number is 9, at 0; within it the record at `at` gives
+-- the number
+pub record Refused (bytes : List ℕ) : Type 0 where
+  pub entries : List Entry
+  pub valid : AllValid entries
+  pub before : take (readingOf bytes .at) bytes ≡ recordsOf entries
+  pub place : readingOf bytes .at ≡ recordBytes * length entries
+  pub patch : readingOf bytes .patch ≡ noPatch
+  pub above : limit < length bytes → (readingOf bytes .number ≡ 9) × (readingOf bytes .at ≡ 0)
+  pub within : length bytes ≤ limit → readingOf bytes .at < length bytes
+  pub number : length bytes ≤ limit → readingOf bytes .number ≡ numberAt bytes (readingOf bytes .at)
