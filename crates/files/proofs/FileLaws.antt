@@ -7,17 +7,18 @@ use native.Mathlib.Nat.{mod-eq-of-lt, add-assoc, add-zero}
 use native.Mathlib.Omega.{arith}
 use lib.ListN.{length, take, drop, length-append}
 use lib.Seq.{getD-append-add, take-at}
-use Rattle.limits.proofs.LineLaws.{first-passed, or-false}
+use Rattle.limits.proofs.LineLaws.{or-false}
 use Rattle.files.specs.declared.records.Entry.{Entry}
 use Rattle.files.specs.declared.patches.Patch.{Patch}
 use Rattle.files.specs.declared.reader.Slots.{Slots}
 use Rattle.files.specs.declared.writer.Written.{Written}
 use Rattle.files.specs.Format.{limit, twoAt, fourAt, knownKind, fieldsAt, numberAt, badFields, recordOf, recordsOf, Valid, AllValid, none, more}
 use Rattle.files.specs.Reader.{emptySlots, superseded, laterOf, heldOf, acceptedAs, readFrom, readingOf}
-use Rattle.files.specs.Writer.{entryOf, fileOf, writingOf, Wrote}
+use Rattle.files.specs.Writer.{entryOf, fileOf, Wrote}
 use Rattle.files.proofs.FieldLaws.{good-fields, small-kind}
 use Rattle.files.proofs.NumberLaws.{good}
 use Rattle.files.proofs.ReaderLaws.{more-records, ends-here, within-limit}
+use Rattle.files.proofs.WriterLaws.{passed as writing-passed}
 
 -- ---- numbers back from their bytes
 
@@ -131,11 +132,9 @@ module _ (p : Patch) (fields0 : badFields (entryOf 0 (p .slot0)) ≡ false) (fie
 -- the bytes that a writer wrote
 pub reads-back : (p : Patch) (before after : List ℕ) (r : Written) → Wrote p before after r → r .number ≡ 0
     → readingOf (take 28 after) ≡ record { number = 0; at = 0; patch = p }
-unfolding writingOf fileOf recordOf
+unfolding fileOf recordOf
 reads-back p before after r w z =
-    let one = badFields (entryOf 0 (p .slot0)) in
-    let two = badFields (entryOf 1 (p .slot1)) in
-    let fields = or-false one two (first-passed (one || two) 10 _ (sym (w .number) ∙ z) .0) in
+    let fields = or-false _ (badFields (entryOf 1 (p .slot1))) (writing-passed p (length before) (sym (w .number) ∙ z) .0) in
     ap (λ l. readingOf (take 28 l)) (w .written z)
     ∙ ap readingOf (take-at (fileOf p) (drop 28 before) 28 refl)
     ∙ reads-written p (fields .0) (fields .1)

@@ -8,3 +8,4 @@ pub mod RecordLaws
 pub mod LatestLaws
 pub mod SameLaws
 pub mod CardLaws
+pub mod Examples

@@ -1,14 +1,29 @@
--- The number of a record, way by way of the code. Assumes nothing.
+-- The number of a record: line by line, and way by way of the code. Assumes nothing.
 use mathlib.Core.Path.{_≡_}
-use mathlib.Core.Bool.{true, false}
+use mathlib.Core.Bool.{true, false, not, _||_}
 use mathlib.Core.List.{List}
 use Prim.Native.Nat.{ℕ, _+_, _-_, _≤_, _<_}
 use borrow.Author.Tests.{lt-ltb, le-ltb, eq-eqb, ne-eqb}
 use lib.ListN.{length}
 use Rattle.limits.specs.Lines.{firstOf}
-use Rattle.files.specs.Format.{knownKind, badFields, twoAt, fieldsAt, numberAt}
+use Rattle.files.specs.Format.{cutShort, wrongLength, knownKind, badFields, twoAt, fieldsAt, numberAt}
 
 module _ (bytes : List ℕ) (at : ℕ) where
+  -- the lines, in their order
+  pub nine : (cutShort bytes at || wrongLength bytes at) ≡ true → 9 ≡ numberAt bytes at
+  unfolding numberAt firstOf
+  nine h = rw h
+
+  pub ten : (cutShort bytes at || wrongLength bytes at) ≡ false → not (knownKind (twoAt bytes (at + 2))) ≡ true → 10 ≡ numberAt bytes at
+  unfolding numberAt firstOf
+  ten sound h = rw (sound, h)
+
+  pub eleven : (cutShort bytes at || wrongLength bytes at) ≡ false → not (knownKind (twoAt bytes (at + 2))) ≡ false
+      → badFields (fieldsAt bytes at) ≡ true → 11 ≡ numberAt bytes at
+  unfolding numberAt firstOf
+  eleven sound known h = rw (sound, known, h)
+
+  -- the ways
   pub length-cut : length bytes - at < 2 → 9 ≡ numberAt bytes at
   unfolding numberAt firstOf
   length-cut h = rw (lt-ltb _ _ h)

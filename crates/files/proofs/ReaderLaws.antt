@@ -7,10 +7,11 @@ use native.Mathlib.Omega.{arith}
 use borrow.Author.Tests.{ltb-false, eqb-true, not-false, lt-ltb, le-ltb, eq-eqb, ne-eqb}
 use lib.Dec.{ltb, eqb}
 use lib.ListN.{length}
-use Rattle.limits.proofs.LineLaws.{first-passed, or-false}
+use Rattle.limits.proofs.LineLaws.{or-false}
 use Rattle.files.specs.declared.reader.Slots.{Slots}
 use Rattle.files.specs.Format.{limit, cutShort, wrongLength, knownKind, badFields, twoAt, fieldsAt, numberAt}
 use Rattle.files.specs.Reader.{emptySlots, superseded, acceptedAs, refusedAt, readFrom, readingOf}
+use Rattle.files.proofs.NumberLaws.{nine, ten, eleven}
 
 -- ---- a record that passes
 
@@ -24,16 +25,23 @@ and-false : (a b : Bool) → a ≡ true → (a && b) ≡ false → b ≡ false
 and-false true b h e = e
 and-false false b h e = absurd (let z : _≡_ {A = ℕ} 0 1 = cc in omega arith)
 
+-- a line that would give a number does not hold
+no-line : (t : Bool) → (t ≡ true → ⊥) → t ≡ false
+no-line true h = absurd (h refl)
+no-line false h = refl
+
 pub passed : (bytes : List ℕ) (at : ℕ) → numberAt bytes at ≡ 0 → Passed bytes at
-unfolding numberAt
 passed bytes at e =
-    let p9 = first-passed (cutShort bytes at || wrongLength bytes at) 8 _ e in
-    let p10 = first-passed (not (knownKind (twoAt bytes (at + 2)))) 9 _ (p9 .1) in
-    let p11 = first-passed (badFields (fieldsAt bytes at)) 10 _ (p10 .1) in
-    let both = or-false (cutShort bytes at) (wrongLength bytes at) (p9 .0) in
+    let sound : (cutShort bytes at || wrongLength bytes at) ≡ false =
+    no-line _ (λ h. let n : 9 ≡ 0 = nine bytes at h ∙ e in absurd (omega arith)) in
+    let kind : not (knownKind (twoAt bytes (at + 2))) ≡ false =
+    no-line _ (λ h. let n : 10 ≡ 0 = ten bytes at sound h ∙ e in absurd (omega arith)) in
+    let fields : badFields (fieldsAt bytes at) ≡ false =
+    no-line _ (λ h. let n : 11 ≡ 0 = eleven bytes at sound kind h ∙ e in absurd (omega arith)) in
+    let both = or-false (cutShort bytes at) (wrongLength bytes at) sound in
     let cut = or-false (ltb (length bytes - at) 2) (ltb (length bytes - at) (2 + twoAt bytes at)) (both .0) in
     let wrong = or-false (ltb (twoAt bytes at) 2) (knownKind (twoAt bytes (at + 2)) && not (eqb (twoAt bytes at) 12)) (both .1) in
-    let is-known : knownKind (twoAt bytes (at + 2)) ≡ true = not-false _ (p10 .0) in
+    let is-known : knownKind (twoAt bytes (at + 2)) ≡ true = not-false _ kind in
     let is-sized : eqb (twoAt bytes at) 12 ≡ true = not-false _ (and-false _ _ is-known (wrong .1)) in
     let sized : twoAt bytes at ≡ 12 = eqb-true _ _ is-sized in
     let left : 2 + twoAt bytes at ≤ length bytes - at = ltb-false _ _ (cut .1) in
@@ -41,7 +49,7 @@ passed bytes at e =
       sized = sized;
       known = is-known;
       whole = omega arith;
-      fields = p11 .0;
+      fields = fields;
     }
 
 -- ---- a loop over the records

@@ -5,12 +5,11 @@ use mathlib.Core.List.{List, _++_}
 use Prim.Native.Nat.{ℕ, suc, _+_, _*_, _/_, _%_, _≤_, _<_}
 use native.Mathlib.Nat.{mod-eq-of-lt}
 use native.Mathlib.Omega.{arith}
-use borrow.Author.Tests.{lt-ltb, le-ltb, ltb-false, eqb-true, eqb-false}
+use borrow.Author.Tests.{lt-ltb, le-ltb, ltb-true, ltb-false, eqb-true, eqb-false}
 use lib.Dec.{ltb, eqb}
 use lib.ListN.{length, drop, length-append, length-drop}
 use lib.Seq.{sets, sets-eq}
 use Rattle.limits.specs.Lines.{firstOf}
-use Rattle.limits.proofs.LineLaws.{first-passed}
 use Rattle.files.specs.declared.patches.PatchSlot.{PatchSlot}
 use Rattle.files.specs.declared.patches.Patch.{Patch}
 use Rattle.files.specs.declared.records.Entry.{Entry}
@@ -45,17 +44,34 @@ small-mode number s e = omega (arith, good-fields (entryOf number s) e .mode)
 
 -- ---- the answers
 
-module _ (p : Patch) (l : List ℕ) where
-  abbrev fields : Bool
+module _ (p : Patch) where
+  -- line 11
+  abbrev pub fields : Bool
   fields = badFields (entryOf 0 (p .slot0)) || badFields (entryOf 1 (p .slot1))
 
-  pub bad-fields : fields ≡ true → Wrote p l l (record { number = 11; bytes = 0 })
+  pub eleven : (size : ℕ) → fields ≡ true → 11 ≡ writingOf p size
   unfolding writingOf firstOf
-  bad-fields e = record { number = rw e; bytes = refl; refused = λ h. refl; written = λ h. absurd (omega arith) }
+  eleven size e = rw e
 
-  pub too-short : fields ≡ false → length l < 28 → Wrote p l l (record { number = 8; bytes = 0 })
+  pub eight : (size : ℕ) → fields ≡ false → size < 28 → 8 ≡ writingOf p size
   unfolding writingOf firstOf
-  too-short e h = record { number = rw (e, lt-ltb _ _ h); bytes = refl; refused = λ ne. refl; written = λ z. absurd (omega arith) }
+  eight size e h = rw (e, lt-ltb _ _ h)
+
+  -- what is written passed both lines
+  pub passed : (size : ℕ) → writingOf p size ≡ 0 → (fields ≡ false) × (28 ≤ size)
+  passed size e = go fields (ltb size 28) refl refl
+    where
+      go : (a b : Bool) → fields ≡ a → ltb size 28 ≡ b → (fields ≡ false) × (28 ≤ size)
+      go true b ea eb = absurd (let n : 11 ≡ 0 = eleven size ea ∙ e in omega arith)
+      go false true ea eb = absurd (let n : 8 ≡ 0 = eight size ea (ltb-true _ _ eb) ∙ e in omega arith)
+      go false false ea eb = (ea, ltb-false _ _ eb)
+
+module _ (p : Patch) (l : List ℕ) where
+  pub bad-fields : fields p ≡ true → Wrote p l l (record { number = 11; bytes = 0 })
+  bad-fields e = record { number = eleven p (length l) e; bytes = refl; refused = λ h. refl; written = λ h. absurd (omega arith) }
+
+  pub too-short : fields p ≡ false → length l < 28 → Wrote p l l (record { number = 8; bytes = 0 })
+  too-short e h = record { number = eight p (length l) e h; bytes = refl; refused = λ ne. refl; written = λ z. absurd (omega arith) }
 
   length-record : (number : ℕ) (s : PatchSlot) → length (recordOf (entryOf number s)) ≡ 14
   unfolding recordOf
@@ -66,7 +82,7 @@ module _ (p : Patch) (l : List ℕ) where
   unfolding fileOf recordOf
   both h = sets-eq (recordOf (entryOf 0 (p .slot0)) ++ recordOf (entryOf 1 (p .slot1))) l 0 h
 
-  pub wrote : {l' : List ℕ} → fields ≡ false → 28 ≤ length l
+  pub wrote : {l' : List ℕ} → fields p ≡ false → 28 ≤ length l
       → l' ≡ sets (sets l 0 (recordOf (entryOf 0 (p .slot0)))) 14 (recordOf (entryOf 1 (p .slot1)))
       → Wrote p l l' (record { number = 0; bytes = 28 })
   unfolding writingOf firstOf
@@ -94,14 +110,12 @@ module _ (p : Patch) (before a b : List ℕ) (r s : Written) (u : Wrote p before
 
 -- a buffer keeps its length
 pub same-length : (p : Patch) (before after : List ℕ) (r : Written) → Wrote p before after r → length after ≡ length before
-unfolding writingOf fileOf recordOf
+unfolding fileOf recordOf
 same-length p before after r w = go (eqb (r .number) 0) refl
   where
     go : (z : Bool) → eqb (r .number) 0 ≡ z → length after ≡ length before
     go false e = ap length (w .refused (eqb-false _ _ e))
     go true e =
         let z = eqb-true _ _ e in
-        let bad = badFields (entryOf 0 (p .slot0)) || badFields (entryOf 1 (p .slot1)) in
-        let passed = first-passed (ltb (length before) 28) 7 _ (first-passed bad 10 _ (sym (w .number) ∙ z) .1) in
-        let room = ltb-false (length before) 28 (passed .0) in
+        let room = passed p (length before) (sym (w .number) ∙ z) .1 in
         ap length (w .written z) ∙ rw (length-append (fileOf p) (drop 28 before), length-drop 28 before) (omega arith)

@@ -2,6 +2,7 @@
 use crate::patches::Patch;
 use crate::patches::PatchSlot;
 use crate::records::Entry;
+use crate::records::RECORD;
 use crate::records::fields_at;
 use crate::records::number_at;
 ghost use mathlib.Core.Path.{_≡_};
@@ -10,9 +11,6 @@ ghost use Rattle.files.specs.Reader.{emptySlots, laterOf, superseded, pa
 
 // The most bytes that a file has.
 pub const LIMIT: usize = 65536;
-
-// A record's bytes: its length, its kind and its body.
-pub const RECORD: usize = 14;
 
 // What reading a file answers: the number by which it is turned away and where the record that caused it
 // starts, with no patch, or 0 and its patch.

@@ -5,6 +5,11 @@ ghost use Prim.Native.Nat.{_+_, _≤_, _<_};
 ghost use lib.ListN.{length, getD};
 ghost use Rattle.files.specs.Format.{twoAt, fourAt, knownKind, fieldsAt, badFields, numberAt};
 
+// A known kind's length, of what follows it, and the bytes of its record.
+pub const LENGTH: u32 = 12;
+
+pub const RECORD: usize = 14;
+
 // A record: its kind and the fields of its body.
 pub struct Entry {
     pub kind: u32,
@@ -79,8 +84,8 @@ pub fn number_at(file: &[u8], at: usize) -> u32
     if left < 2 {
         return 9;
     }
-    let length = two(file, at) as usize;
-    if left < 2 + length {
+    let length = two(file, at);
+    if left < 2 + length as usize {
         return 9;
     }
     if length < 2 {
@@ -90,7 +95,7 @@ pub fn number_at(file: &[u8], at: usize) -> u32
     if !known_kind(kind) {
         return 10;
     }
-    if length != 12 {
+    if length != LENGTH {
         return 9;
     }
     let entry = fields_at(file, at);

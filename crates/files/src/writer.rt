@@ -2,6 +2,8 @@
 use crate::patches::Patch;
 use crate::patches::PatchSlot;
 use crate::records::Entry;
+use crate::records::LENGTH;
+use crate::records::RECORD;
 use crate::records::fields_bad;
 ghost use mathlib.Core.Path.{_≡_};
 ghost use Prim.Native.Nat.{_+_, _≤_, _<_};
@@ -9,6 +11,9 @@ ghost use lib.ListN.{length};
 ghost use lib.Seq.{sets};
 ghost use Rattle.files.specs.Format.{lowTwo, lowFour, recordOf};
 ghost use Rattle.files.specs.Writer.{entryOf, Wrote};
+
+// The bytes of a patch's file: two records.
+pub const PATCH: usize = 28;
 
 // What writing answers: its number, and how many bytes it wrote.
 #[repr(C)]
@@ -54,7 +59,7 @@ fn put_record(file: &mut [u8], at: usize, e: Entry)
     requires { ⌜ (at + 14 ≤ length (now file)) × (e .slot < 256) × (e .mode < 256) ⌝ }
     ensures { λ _. ⌜ now (file .exit) ≡ sets (now (file .entry)) at (recordOf e) ⌝ }
 {
-    put_two(file, at, 12);
+    put_two(file, at, LENGTH);
     put_two(file, at + 2, e.kind);
     put_two(file, at + 4, e.slot + 256 * e.mode);
     put_two(file, at + 6, e.hundredths);
@@ -76,16 +81,16 @@ pub fn write_patch(patch: Patch, file: &mut [u8]) -> Written
             bytes: 0,
         };
     }
-    if file.len() < 28 {
+    if file.len() < PATCH {
         return Written {
             number: 8,
             bytes: 0,
         };
     }
     put_record(file, 0, first);
-    put_record(file, 14, second);
+    put_record(file, RECORD, second);
     Written {
         number: 0,
-        bytes: 28,
+        bytes: PATCH as u32,
     }
 }

@@ -60,4 +60,5 @@ write-patch-spec =
     (λ c κs. let b = first-bytes (c .before .before) in (omega arith, b .0, b .1))
     (λ c κs. let b = second-bytes (c .before .before .before .before .before .before) in (omega arith, b .0, b .1))
     (λ c. search needs)
+    (λ c. search needs)
     returns-3)
