@@ -15,6 +15,7 @@ use Rattle.files.specs.declared.reader.Reading.{Reading}
 use Rattle.files.specs.Format.{limit, twoAt, fourAt, fieldsAt, numberAt, recordOf, recordsOf, Valid, AllValid, none, more, AllBytes}
 use Rattle.files.specs.Reader.{emptySlots, superseded, heldOf, acceptedAs, refusedAt, readFrom, readingOf}
 use Rattle.files.specs.Records.{Accepted, Refused}
+use Rattle.files.proofs.LatestLaws.{latest-0, latest-1}
 use Rattle.files.proofs.ReaderLaws.{Passed, passed, more-records, refuses, ends-here, over-limit, within-limit}
 
 -- ---- numbers of bytes
@@ -190,6 +191,8 @@ module _ (bytes : List ℕ) (small : AllBytes bytes) where
             valid = w .valid;
             same = w .same ∙ rw (drop-past bytes _ h) (append-nil (recordsOf (w .entries)));
             reads = e;
+            latest0 = latest-0 (w .entries);
+            latest1 = latest-1 (w .entries) (w .valid);
           }
       walked w (stopped h ne e) = absurd (ne (sym (ap (λ r. r .number) e) ∙ zero-number))
 

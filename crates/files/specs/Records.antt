@@ -6,13 +6,16 @@ use lib.ListN.{length, take}
 use Rattle.files.specs.declared.records.Entry.{Entry}
 use Rattle.files.specs.Format.{limit, recordBytes, numberAt, recordsOf, AllValid}
 use Rattle.files.specs.Reader.{emptySlots, noPatch, acceptedAs, readingOf, heldOf}
+use Rattle.files.specs.Latest.{Latest}
 
--- it is a list of valid records, and is read as them
+-- it is a list of valid records, is read as them, and leaves each slot with its latest
 pub record Accepted (bytes : List ℕ) : Type 0 where
   pub entries : List Entry
   pub valid : AllValid entries
   pub same : bytes ≡ recordsOf entries
   pub reads : readingOf bytes ≡ acceptedAs (heldOf emptySlots entries)
+  pub latest0 : Latest 0 entries (heldOf emptySlots entries .held0)
+  pub latest1 : Latest 1 entries (heldOf emptySlots entries .held1)
 
 -- it holds no patch; the bytes before `at` are valid records; above the limit the number is 9, at 0; within it the record at `at` gives
 -- the number
