@@ -2,11 +2,8 @@
  *
  *   cc -std=c11 -Iinclude examples/panel.c target/staticlib/libcard.a -lm -o panel
  *   ./panel Sync 40 0 LowPass 75 0.9 > picture.svg */
-#include "shaper_names.h"
 #include "svg.h"
-
-#include <stdlib.h>
-#include <string.h>
+#include "words.h"
 
 static const char usage[] =
     "usage: panel MODE0 AMOUNT0 CHARACTER0 MODE1 AMOUNT1 CHARACTER1 [CYCLE [CURVE]] > picture.svg\n"
@@ -33,16 +30,12 @@ static _Noreturn void stop(const char *word)
     exit(2);
 }
 
-/* By a name or a whole number. Which numbers are modes, the call says. */
 static uint32_t mode_of(const char *word)
 {
-    const uint32_t named = shaper_mode_of(word);
-    if (named < SHAPER_MODES)
-        return named;
-    if (*word == '\0' || word[strspn(word, "0123456789")] != '\0')
+    uint32_t mode;
+    if (!take_mode(word, &mode))
         stop(word);
-    const unsigned long number = strtoul(word, NULL, 10);
-    return number < UINT32_MAX ? (uint32_t)number : UINT32_MAX;
+    return mode;
 }
 
 static float number_of(const char *word, float most)

@@ -15,8 +15,9 @@
  *   - No one else writes a buffer of the call while it runs, or reads one that it writes.
  *   - The thread's floating-point mode is C's default: to nearest, and subnormal numbers are kept.
  * Beyond that arguments may be any, NaN and infinities too. A count need not be a multiple of anything: what is longer
- * than asked for is left alone (but a picture, of which every number is a point), what is shorter is refused, an empty
- * buffer too where something is asked for, unless it may be absent.
+ * than asked for is left alone (but a picture, of which every number is a point, and a patch file that is read, which
+ * counts to its last byte), what is shorter is refused, an empty buffer too where something is asked for, unless it may
+ * be absent.
  */
 #ifndef SHAPER_H
 #define SHAPER_H
@@ -359,7 +360,8 @@ struct shaper_same {
 
 /* Reads a patch file.
  *
- *   file  read, every byte of it; it may have any length, none too (both slots are then SHAPER_OFF) */
+ *   file  read, to its end or to the record that turns it away. Any length will do, none too: both slots are then
+ *         SHAPER_OFF */
 struct shaper_patch shaper_patch_read(const uint8_t *file, size_t file_length);
 
 /* Writes a patch file: slot 0's record and then slot 1's, of kind 1 and with serial 1, also for SHAPER_OFF. Reading its

@@ -60,6 +60,22 @@ static void check_names()
     check(shaper_mode_of("lowpass") == SHAPER_LOW_PASS && shaper_mode_of("low") == SHAPER_MODES, "the mode of a name");
 }
 
+static void check_files()
+{
+    uint8_t file[SHAPER_PATCH_BYTES];
+    const shaper_written w =
+        shaper_patch_write(SHAPER_HARD_CLIP, 5000, 2500, SHAPER_LOW_PASS, 3333, 10000, file, SHAPER_PATCH_BYTES);
+    const shaper_patch p = shaper_patch_read(file, w.bytes);
+    check(w.number == SHAPER_ACCEPTED && w.bytes == SHAPER_PATCH_BYTES && p.number == SHAPER_ACCEPTED
+            && p.slot0.mode == SHAPER_HARD_CLIP && p.slot0.amount == 50.0f && p.slot0.character == 0.25f
+            && p.slot1.mode == SHAPER_LOW_PASS && p.slot1.hundredths == 3333 && p.slot1.ten_thousandths == 10000,
+        "a patch that is written and read");
+    const shaper_same all = shaper_patch_same(file, w.bytes, file, w.bytes);
+    const shaper_same cut = shaper_patch_same(file, w.bytes, file, w.bytes - 1);
+    check(all.number == SHAPER_ACCEPTED && all.same == 1 && cut.number == SHAPER_BAD_LENGTH && cut.same == 0,
+        "the same patch");
+}
+
 /* Off in both slots reads the cycle and decimates it. */
 int main()
 {
@@ -89,5 +105,6 @@ int main()
         "the plan of a block");
     check_picture();
     check_names();
+    check_files();
     return finish();
 }
