@@ -1,6 +1,7 @@
 //! The proved library's calls for C (crate `card`).
 
 use programs::decimations::Shape;
+use programs::files;
 use programs::pictures::Picture;
 use programs::singles::{Call, Slices};
 
@@ -37,7 +38,56 @@ pub struct Needs {
     pub steps: u32,
 }
 
+/// A slot of a patch: a file's whole numbers and the card's floats.
+#[repr(C)]
+#[derive(Clone, Copy, Debug, PartialEq)]
+pub struct PatchSlot {
+    pub mode: u32,
+    pub hundredths: u32,
+    pub ten_thousandths: u32,
+    pub amount: f32,
+    pub character: f32,
+}
+
+/// What a patch file holds: a refusal's number, the byte at which its record starts and zeros, or 0 twice and both
+/// slots.
+#[repr(C)]
+#[derive(Clone, Copy, Debug, PartialEq)]
+pub struct Patch {
+    pub number: u32,
+    pub at: u32,
+    pub slots: [PatchSlot; 2],
+}
+
+/// A refusal's number and 0, or 0 and the bytes.
+#[repr(C)]
+#[derive(Clone, Copy, Debug)]
+pub struct Written {
+    pub number: u32,
+    pub bytes: u32,
+}
+
+/// The number of the first file that is turned away and 0, or 0 and whether both hold the same patch.
+#[repr(C)]
+#[derive(Clone, Copy, Debug)]
+pub struct Same {
+    pub number: u32,
+    pub same: u32,
+}
+
 unsafe extern "C" {
+    fn shaper_patch_read(file: *const u8, file_len: usize) -> Patch;
+    fn shaper_patch_write(
+        mode0: u32,
+        hundredths0: u32,
+        ten_thousandths0: u32,
+        mode1: u32,
+        hundredths1: u32,
+        ten_thousandths1: u32,
+        file: *mut u8,
+        file_len: usize,
+    ) -> Written;
+    fn shaper_patch_same(a: *const u8, a_len: usize, b: *const u8, b_len: usize) -> Same;
     fn shaper_plan(
         factor: u32,
         lanes: u32,
@@ -207,6 +257,36 @@ pub fn preview(call: &Picture, numbers: &[f32], curve: &[f32], cycle: &[f32], pi
             picture.len(),
         )
     }
+}
+
+/// What a patch file holds.
+pub fn patch_read(file: &[u8]) -> Patch {
+    // SAFETY: the pointer and count are the slice's.
+    unsafe { shaper_patch_read(file.as_ptr(), file.len()) }
+}
+
+/// A patch, written to the start of `file`.
+pub fn patch_write(patch: &files::Patch, file: &mut [u8]) -> Written {
+    let [slot0, slot1] = patch;
+    // SAFETY: the pointer and count are the slice's.
+    unsafe {
+        shaper_patch_write(
+            slot0.mode,
+            slot0.hundredths,
+            slot0.ten_thousandths,
+            slot1.mode,
+            slot1.hundredths,
+            slot1.ten_thousandths,
+            file.as_mut_ptr(),
+            file.len(),
+        )
+    }
+}
+
+/// Whether two files hold the same patch.
+pub fn patch_same(a: &[u8], b: &[u8]) -> Same {
+    // SAFETY: the pointers and counts are the slices', of which none is written.
+    unsafe { shaper_patch_same(a.as_ptr(), a.len(), b.as_ptr(), b.len()) }
 }
 
 /// The decimation of `buffer` in place.

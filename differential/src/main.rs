@@ -4,6 +4,7 @@
 mod blocks;
 mod card;
 mod decimate;
+mod files;
 mod guards;
 mod leaves;
 mod lending;
@@ -23,11 +24,11 @@ use tally::{Part, Tally};
 const USAGE: &str = "usage: differential quick
        differential long MINUTES [SEED]
        differential COMPARISON COUNT [SEED]
-         leaves, phases, waves, decimate, singles, blocks, plans, pictures or largest
-       differential speed [leaves | lists | shapes | decimations | pictures | pairs | modes | ranges] [rows]
+         leaves, phases, waves, decimate, singles, blocks, plans, pictures, files or largest
+       differential speed [leaves | lists | shapes | decimations | pictures | files | pairs | modes | ranges] [rows]
          all of it, or one table: leaves of lanes.rs, sums of read lists, slots of the wave stage, decimations,
-         pictures; block runs of pairs of modes, of each mode alone, and of the pairs by lanes and by the frames of
-         a call; with `rows` every row of the last three";
+         pictures, patch files; block runs of pairs of modes, of each mode alone, and of the pairs by lanes and by the
+         frames of a call; with `rows` every row of the last three";
 
 struct Comparison {
     name: &'static str,
@@ -40,9 +41,9 @@ struct Comparison {
 
 /// Spans are in singles, blocks and largest; read lists in phases and singles; samples in waves and singles;
 /// state in waves, decimate, singles, blocks and largest; decimated buffers in decimate; whole blocks in
-/// blocks and largest; refusals in decimate, singles, blocks, plans and pictures; cuts, demand 3 by brute force,
-/// in blocks; what a block needs in plans; drawn cycles in pictures.
-const COMPARISONS: [Comparison; 9] = [
+/// blocks and largest; refusals in decimate, singles, blocks, plans, pictures and files; cuts, demand 3 by brute
+/// force, in blocks; what a block needs in plans; drawn cycles in pictures; patches in files.
+const COMPARISONS: [Comparison; 10] = [
     Comparison { name: "leaves", parts: leaves::PARTS, quick: 200_000, round: 1_000_000 },
     Comparison { name: "phases", parts: phases::PARTS, quick: 400_000, round: 1_600_000 },
     Comparison { name: "waves", parts: waves::PARTS, quick: 150_000, round: 300_000 },
@@ -51,6 +52,7 @@ const COMPARISONS: [Comparison; 9] = [
     Comparison { name: "blocks", parts: blocks::PARTS, quick: 490, round: 4_900 },
     Comparison { name: "plans", parts: plans::PARTS, quick: 4_900, round: 4_900 },
     Comparison { name: "pictures", parts: pictures::PARTS, quick: 4_900, round: 9_800 },
+    Comparison { name: "files", parts: files::PARTS, quick: 100_000, round: 100_000 },
     Comparison { name: "largest", parts: blocks::LARGEST, quick: 0, round: 4 },
 ];
 

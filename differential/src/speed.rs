@@ -4,6 +4,7 @@
 mod blocks;
 mod clock;
 mod decimations;
+mod files;
 mod leaves;
 mod lists;
 mod markdown;
@@ -15,12 +16,13 @@ mod shapes;
 mod summary;
 
 /// The parts by their names; those that sum rows up print every one of them on demand.
-const PARTS: [(&str, fn(bool)); 8] = [
+const PARTS: [(&str, fn(bool)); 9] = [
     ("leaves", |_| leaves::print()),
     ("lists", |_| lists::print()),
     ("shapes", |_| shapes::print()),
     ("decimations", |_| decimations::print()),
     ("pictures", |_| pictures::print()),
+    ("files", |_| files::print()),
     ("pairs", pairs::print),
     ("modes", modes::print),
     ("ranges", ranges::print),

@@ -1,7 +1,8 @@
 // Replays the oracle's stored answers (stdin, a line each) and prints how many of them the library
-// gives, and of document 01's boundary values how many are kept: "P of T" in all. The lines are those of
-// `leaf_vectors`, `phase_vectors`, `wave_vectors`, `decimate_vectors`, `single_vectors`, `block_vectors` and
-// `picture_vectors` of oracle/programs, which has their format.
+// gives, and of document 01's boundary values and of known patch files how many are kept: "P of T" in all. The
+// lines are those of `leaf_vectors`, `phase_vectors`, `wave_vectors`, `decimate_vectors`, `single_vectors`,
+// `block_vectors`, `picture_vectors` and `file_vectors` of oracle/programs, which has their format; the last are a
+// model's.
 mod blocks;
 mod boundaries;
 mod settings;
@@ -17,6 +18,9 @@ use boundaries::BOUNDARIES;
 use boundaries::boundaries_kept;
 use call_answers::block_cells::curve_of;
 use call_answers::runs::calls_hash;
+use file_answers::examples::EXAMPLES;
+use file_answers::examples::examples_kept;
+use file_answers::runs::file_hash;
 use floats::POWERS;
 use libc::STDIN_FILENO;
 use libc::STDOUT_FILENO;
@@ -32,11 +36,12 @@ struct Tally {
     total: u64,
 }
 
-// Calls about one lane or about a block's spans, about a block's ranges, or pictures.
+// Calls about one lane or about a block's spans, about a block's ranges, pictures, or patch files.
 fn called_hash(table: &[f32; 1025], op: u32, run: ModesRun) -> u64 {
     match op {
         0x60 => block_hash(table, run),
         0x61 => picture_hash(&curve_of(table, run.seed), run),
+        0x62 => file_hash(run),
         _ => calls_hash(table, op, run),
     }
 }
@@ -92,13 +97,23 @@ fn added(t: Tally, more: Tally) -> Tally {
     }
 }
 
-fn main() {
-    let powers = POWERS;
-    let table = answers::random::table();
-    let mut tally = Tally {
+// What is kept of values that no line has.
+fn kept() -> Tally {
+    let boundaries = Tally {
         passed: boundaries_kept(),
         total: BOUNDARIES,
     };
+    let examples = Tally {
+        passed: examples_kept(),
+        total: EXAMPLES,
+    };
+    added(boundaries, examples)
+}
+
+fn main() {
+    let powers = POWERS;
+    let table = answers::random::table();
+    let mut tally = kept();
     for _ in 0..LINES {
         let mut line = [0u8; 39];
         let n = io::read_full(STDIN_FILENO, &mut line);

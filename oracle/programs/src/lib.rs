@@ -1,9 +1,11 @@
 //! What the vector programs share: the generator, the hash, the leaves
 //! by operation code, and the cases of the phase side, the wave side, the
-//! decimator, the single calls, the block run and the pictures.
+//! decimator, the single calls, the block run, the pictures and the patch
+//! files.
 
 pub mod blocks;
 pub mod decimations;
+pub mod files;
 pub mod pairs;
 pub mod phases;
 pub mod pictures;

@@ -16,8 +16,8 @@ abbrev μ-loop : tie.MeasureT-loop
 table-requires : tie.Need-table-requires Inv-loop μ-loop
 table-requires c κs = search needs
 
-boundaries-kept-requires : tie.Need-boundaries-kept-requires Inv-loop μ-loop
-boundaries-kept-requires c κs = search needs
+kept-requires : tie.Need-kept-requires Inv-loop μ-loop
+kept-requires c κs = search needs
 
 loop-holds : tie.Need-loop-holds Inv-loop μ-loop
 unfolding entries
@@ -72,7 +72,7 @@ main-spec =
     Inv-loop
     μ-loop
     table-requires
-    boundaries-kept-requires
+    kept-requires
     loop-holds
     slice-aggregate-read-full
     read-full-requires
