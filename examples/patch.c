@@ -13,7 +13,8 @@ static const char usage[] =
     "       patch FILE MODE0 AMOUNT0 CHARACTER0 MODE1 AMOUNT1 CHARACTER1    writes it\n"
     "       patch same FILE OTHER                                           whether they hold the same patch\n"
     "  modes by name or number (docs/MODES.md), amounts in percent, 0 to 100, with two decimals at most, characters\n"
-    "  0 to 1 with four; ends with 1 if a patch is turned away or two differ, 2 if a file can't be read or written\n";
+    "  0 to 1 with four; ends with 1 if a patch is turned away or two differ, 2 if a file can't be read or written or\n"
+    "  a word is none of these\n";
 
 /* A file and its patch. Of a file that is too long, one byte past the limit shows it to the library. */
 struct file {
@@ -140,6 +141,10 @@ static int make(const char *name, char **words)
 /* Each use has a number of words of its own: a file may have any name. */
 int main(int argc, char **argv)
 {
+    if (argc == 2 && strcmp(argv[1], "--help") == 0) {
+        fputs(usage, stdout);
+        return 0;
+    }
     if (argc != 2 && argc != 8 && (argc != 4 || strcmp(argv[1], "same") != 0))
         stop(NULL);
     const int code = argc == 2 ? show(argv[1]) : argc == 4 ? compare(argv[2], argv[3]) : make(argv[1], argv + 2);

@@ -80,7 +80,7 @@ enum shaper_mode {
 #define SHAPER_SLOTS 2      /* slot 1 shapes what slot 0 made */
 #define SHAPER_SUB_BLOCK 32 /* host frames that share a row of a span */
 #define SHAPER_FILE_LIMIT 65536 /* a patch file's bytes are 0 to this */
-#define SHAPER_RECORD_BYTES 14  /* a record's of a patch file, its length among them */
+#define SHAPER_RECORD_BYTES 14  /* a patch file's record, with the two bytes of its length */
 #define SHAPER_PATCH_BYTES 28   /* what shaper_patch_write writes: a record for each slot */
 
 /* How many numbers a buffer has at least, by the buffer's name: an array's size where the arguments are constant. Those
@@ -114,7 +114,7 @@ enum shaper_mode {
 /* Why a call is turned down: by the first of these lines that holds, for the arguments that it has. */
 enum shaper_refusal {
     SHAPER_ACCEPTED = 0,
-    SHAPER_BAD_MODE = 1,   /* a mode is above 69 */
+    SHAPER_BAD_MODE = 1,   /* a mode is above 69 (of a patch file it is SHAPER_BAD_FIELD) */
     SHAPER_BAD_FACTOR = 2, /* the factor is not 1, 2, 4 or 8 */
     SHAPER_BAD_LANES = 3,  /* the lane count is not 1..64, the active lanes are more, or a single lane is not active */
     SHAPER_BAD_FRAMES = 4, /* a block above 4,096 frames, a range past its end, a single frame outside its range, or a
@@ -354,14 +354,13 @@ struct shaper_written {
 
 /* Whether two files hold the same patch: 1 or 0, and 0 where one is turned away. */
 struct shaper_same {
-    uint32_t number; /* of the first file that is turned away */
+    uint32_t number; /* SHAPER_ACCEPTED, or that of the first file that is turned away */
     uint32_t same;
 };
 
 /* Reads a patch file.
  *
- *   file  read, to its end or to the record that turns it away. Any length will do, none too: both slots are then
- *         SHAPER_OFF */
+ *   file  read, to its end or to the record that turns it away. It may be empty: both slots are then SHAPER_OFF */
 struct shaper_patch shaper_patch_read(const uint8_t *file, size_t file_length);
 
 /* Writes a patch file: slot 0's record and then slot 1's, of kind 1 and with serial 1, also for SHAPER_OFF. Reading its
@@ -378,8 +377,8 @@ struct shaper_written shaper_patch_write(
     uint32_t ten_thousandths1, uint8_t *file, size_t file_length);
 
 /* Whether two files hold the same patch: both slots agree in mode and amount. Characters may differ. Two SHAPER_OFF
- * slots with other amounts are not the same. A file that is turned away holds no patch and is the same as none, not as
- * itself either.
+ * slots with other amounts are not the same. A file that is turned away holds no patch: it is the same as no file,
+ * itself included.
  *
  *   a, b  read, as in shaper_patch_read; they may be the same buffer */
 struct shaper_same shaper_patch_same(const uint8_t *a, size_t a_length, const uint8_t *b, size_t b_length);

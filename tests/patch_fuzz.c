@@ -56,6 +56,45 @@ static void check_written(const uint8_t *file, size_t length, const struct shape
     take_back(written, 0);
 }
 
+/* The highest of each of the six numbers that a writer takes. */
+static uint32_t most_of(unsigned i)
+{
+    return i % 3 == 0 ? 69 : 10000;
+}
+
+/* What a writer should do: the number, and in `file` the bytes. */
+static uint32_t model_write(const uint32_t n[6], uint8_t *file, size_t length)
+{
+    for (unsigned i = 0; i < 6; i++)
+        if (n[i] > most_of(i))
+            return SHAPER_BAD_FIELD;
+    if (length < 28)
+        return SHAPER_SHORT_WRITE;
+    put_record(file, 0, n[0], n[1], n[2], 1);
+    put_record(file + RECORD, 1, n[3], n[4], n[5], 1);
+    return SHAPER_ACCEPTED;
+}
+
+/* The input as six numbers, each any or about as high as it may be, a length, and what the buffer holds before. */
+static void check_writing(const uint8_t *data, size_t size)
+{
+    uint32_t n[6];
+    if (size < 4 * COUNT_OF(n) + 1)
+        return;
+    for (unsigned i = 0; i < COUNT_OF(n); i++) {
+        const uint32_t any = number_at(data + 4 * i, 4);
+        n[i] = any % 4 == 0 ? any / 4 : any / 4 % (most_of(i) + 2);
+    }
+    const size_t asked = data[4 * COUNT_OF(n)] % 64, length = asked < size ? asked : size;
+    uint8_t *file = lent(data, length, 0), *want = lent(data, length, 0);
+    const uint32_t number = model_write(n, want, length);
+    const struct shaper_written w = shaper_patch_write(n[0], n[1], n[2], n[3], n[4], n[5], file, length);
+    must(w.number == number && w.bytes == (number == SHAPER_ACCEPTED ? 28 : 0), "the answer of a writer");
+    must(length == 0 || memcmp(file, want, length) == 0, "what a writer leaves");
+    take_back(file, 0);
+    take_back(want, 0);
+}
+
 /* The input cut in two, and each with the other. */
 static void check_cut(const uint8_t *data, size_t size, size_t at)
 {
@@ -79,6 +118,7 @@ int LLVMFuzzerTestOneInput(const uint8_t *data, size_t size)
     take_back(file, 0);
     check_cut(data, size, size / (2 * RECORD) * RECORD);
     check_cut(data, size, size / 2);
+    check_writing(data, size);
     return 0;
 }
 

@@ -11,13 +11,13 @@ use crate::tally::{Part, Tally};
 use programs::files::{self, Patch, RECORD, Reading, Record, Slot};
 use std::ops::Range;
 
-/// Right records that would count, before a lent file and behind it: so that a byte outside of it is seen.
-const AROUND: usize = RECORD;
+/// On either side of a lent file: a record, and a byte so that the file starts at an odd address.
+const AROUND: usize = 1 + RECORD;
 
-/// The file with such records around it.
+/// The file with right records around it that would count: so that a byte outside of it is seen.
 fn guarded(file: &[u8]) -> Vec<u8> {
     let record = Record::of(1 << 8, 0x4321_8765, u32::MAX).bytes();
-    [&record, file, &record].concat()
+    [&[0], &record[..], file, &record[..], &[0]].concat()
 }
 
 /// A file as a message names it: its length, and some records from where it is turned away.

@@ -1,5 +1,5 @@
 -- What was read can be written, and what a refused file answers is zeros. Assumes nothing.
-use mathlib.Core.Path.{_≡_, refl, _∙_, ap}
+use mathlib.Core.Path.{_≡_, refl}
 use mathlib.Core.Bool.{Bool, true, false}
 use mathlib.Core.List.{List, [], _∷_}
 use Prim.Native.Nat.{ℕ, _≤_}
@@ -8,19 +8,15 @@ use borrow.Author.Tests.{le-ltb}
 use lib.Dec.{ltb, eqb}
 use Rattle.limits.specs.Lines.{firstOf}
 use Rattle.floats.specs.F32.{0f}
-use Rattle.files.specs.declared.patches.PatchSlot.{PatchSlot}
-use Rattle.files.specs.declared.patches.Patch.{Patch}
 use Rattle.files.specs.declared.records.Entry.{Entry}
 use Rattle.files.specs.declared.reader.Slots.{Slots}
 use Rattle.files.specs.declared.reader.Held.{Held}
-use Rattle.files.specs.declared.reader.Reading.{Reading}
 use Rattle.files.specs.declared.answers.CardSlot.{CardSlot}
 use Rattle.files.specs.Format.{Valid, AllValid, none, more, AllBytes, badFields}
 use Rattle.files.specs.Patch.{cardAmount, cardCharacter}
 use Rattle.files.specs.Reader.{offSlot, emptySlots, heldAs, laterOf, superseded, heldOf, readingOf}
 use Rattle.files.specs.Writer.{entryOf, writingOf}
 use Rattle.files.specs.Card.{cardSlot, cardPatch}
-use Rattle.files.specs.Records.{Refused}
 use Rattle.files.proofs.FieldLaws.{InRange, good-fields, in-ranges}
 use Rattle.files.proofs.RecordLaws.{accepted-file, refused-file}
 

@@ -183,22 +183,23 @@ module _ (bytes : List ℕ) (small : AllBytes bytes) where
   pub accepted-file : readingOf bytes .number ≡ 0 → Accepted bytes
   accepted-file zero-number = go file
     where
-      walked : (w : Walked bytes 0 emptySlots (readingOf bytes))
+      walked : length bytes ≤ limit → (w : Walked bytes 0 emptySlots (readingOf bytes))
           → End bytes (0 + 14 * length (w .entries)) (heldOf emptySlots (w .entries)) (readingOf bytes) → Accepted bytes
-      walked w (at-end h e) =
+      walked few w (at-end h e) =
           record {
             entries = w .entries;
             valid = w .valid;
             same = w .same ∙ rw (drop-past bytes _ h) (append-nil (recordsOf (w .entries)));
+            few = few;
             reads = e;
             latest0 = latest-0 (w .entries);
             latest1 = latest-1 (w .entries) (w .valid);
           }
-      walked w (stopped h ne e) = absurd (ne (sym (ap (λ r. r .number) e) ∙ zero-number))
+      walked few w (stopped h ne e) = absurd (ne (sym (ap (λ r. r .number) e) ∙ zero-number))
 
       go : File → Accepted bytes
       go (over h e) = absurd (let z : 9 ≡ 0 = sym (ap (λ r. r .number) e) ∙ zero-number in omega arith)
-      go (within h w) = walked w (w .ends)
+      go (within h w) = walked h w (w .ends)
 
   pub refused-file : (readingOf bytes .number ≡ 0 → ⊥) → Refused bytes
   unfolding recordsOf

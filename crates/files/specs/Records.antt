@@ -8,11 +8,12 @@ use Rattle.files.specs.Format.{limit, recordBytes, numberAt, recordsOf, 
 use Rattle.files.specs.Reader.{emptySlots, noPatch, acceptedAs, readingOf, heldOf}
 use Rattle.files.specs.Latest.{Latest}
 
--- it is a list of valid records, is read as them, and leaves each slot with its latest
+-- it is within the limit and a list of valid records, is read as them, and leaves each slot with its latest
 pub record Accepted (bytes : List ℕ) : Type 0 where
   pub entries : List Entry
   pub valid : AllValid entries
   pub same : bytes ≡ recordsOf entries
+  pub few : length bytes ≤ limit
   pub reads : readingOf bytes ≡ acceptedAs (heldOf emptySlots entries)
   pub latest0 : Latest 0 entries (heldOf emptySlots entries .held0)
   pub latest1 : Latest 1 entries (heldOf emptySlots entries .held1)

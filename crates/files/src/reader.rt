@@ -6,8 +6,7 @@ use crate::records::RECORD;
 use crate::records::fields_at;
 use crate::records::number_at;
 ghost use mathlib.Core.Path.{_≡_};
-ghost use Prim.Native.Nat.{_+_, _≤_};
-ghost use Rattle.files.specs.Reader.{emptySlots, laterOf, superseded, patchOf, acceptedAs, refusedAt, readingOf};
+ghost use Rattle.files.specs.Reader.{emptySlots, laterOf, superseded, acceptedAs, refusedAt, readingOf};
 
 // The most bytes that a file has.
 pub const LIMIT: usize = 65536;
