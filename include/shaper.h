@@ -338,7 +338,8 @@ struct shaper_patch_slot {
     float character;          /* ten_thousandths / 10,000: as character0, character1 */
 };
 
-/* What a file holds, or SHAPER_BAD_LENGTH, _KIND or _FIELD with zeros in both slots. */
+/* What a file holds, or SHAPER_BAD_LENGTH, _KIND or _FIELD with zeros in both slots. A later version may know more
+ * kinds and have more fields in a slot: a host is compiled with the header of the library that it links. */
 struct shaper_patch {
     uint32_t number; /* enum shaper_refusal */
     uint32_t at;     /* turned away for a record: the byte at which it starts, a multiple of 14; else 0 */
