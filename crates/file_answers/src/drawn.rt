@@ -1,7 +1,10 @@
 // Patch files remade from draws: right records with up to two faults among them.
 use answers::random::next;
+ghost use mathlib.Core.Path.{_≡_};
 ghost use Prim.Native.Nat.{_+_, _*_, _≤_};
-ghost use lib.ListN.{length};
+ghost use lib.ListN.{length, take};
+ghost use lib.Seq.{sets};
+ghost use Rattle.files.specs.Format.{lowTwo};
 
 // The draws that a turn is made of, beside those of its file's records.
 pub struct Draws {
@@ -28,6 +31,7 @@ pub fn drawn(s: u32) -> Draws {
 // Two bytes of a number, the low one first.
 pub fn put_two(file: &mut [u8], at: usize, n: u32)
     requires { ⌜ at + 2 ≤ length (now file) ⌝ }
+    ensures { λ _. ⌜ now (file .exit) ≡ sets (now (file .entry)) at (lowTwo n) ⌝ }
 {
     file[at] = (n % 256) as u8;
     file[at + 1] = (n / 256 % 256) as u8;
@@ -199,7 +203,7 @@ pub fn bytes_of(d: Draws) -> usize
 // The first bytes.
 pub fn start(bytes: &[u8], end: usize) -> &[u8]
     requires { ⌜ end ≤ length (now bytes) ⌝ }
+    ensures { λ r. ⌜ now r ≡ take end (now (bytes .entry)) ⌝ }
 {
-    let zero = 0usize;
-    &bytes[zero..end]
+    &bytes[..end]
 }

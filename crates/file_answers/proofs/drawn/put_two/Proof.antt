@@ -1,5 +1,6 @@
--- `drawn::put_two` is safe and ends: the first store leaves the length. Assumes nothing.
+-- `drawn::put_two` meets its contract. Assumes nothing.
 use native.Mathlib.Omega.{arith}
+use native.Mathlib.Numerals.{add-one}
 use lib.ListN.{length-set}
 use borrow.Author.Needs.{needs}
 use Rattle.file_answers.proofs.drawn.put_two.Statement.{statement}
@@ -15,4 +16,4 @@ put-two-spec =
     (λ c. search needs)
     (λ c. rw length-set (omega arith))
     (λ c. search needs)
-    (λ c. search needs))
+    (λ c. rw (add-one (c .args .at))))
