@@ -206,7 +206,9 @@ struct shaper_valued shaper_stretch(
  *   numbers                 read, at least SHAPER_NUMBERS: the sine's five numbers and the arctangent's eight
  *                           (shaper_numbers)
  *   base0 .. curve          read, as in shaper_prepare
- *   cycle                   read, at least SHAPER_CYCLE: one cycle of the wave, read at entry word / 2^21
+ *   cycle                   read, at least SHAPER_CYCLE: one cycle of the wave. A phase word lies at entry word / 2^21
+ *                           and is read between it and the next, in a straight line; the one after entry 2047 is
+ *                           entry 0. Further entries are not looked at
  *   words, steps            read, at least SHAPER_WORDS(frames, factor, lanes) each: phase words (2^32 is one cycle)
  *                           and how far they move in a rendered frame, by rendered frame of the block
  *   inner                   read, the span that shaper_prepare wrote for the block, at least SHAPER_SPAN(frames, lanes)
@@ -219,6 +221,11 @@ struct shaper_valued shaper_stretch(
  *                           numbers, its FM offsets in cycles, the raw sample that it read last (kept only where one
  *                           slot's mode is SHAPER_PD_SELF and the other acts on the sample), and the decimator's cells.
  *                           Zeros start a lane
+ *
+ * A read is first + (next - first) * fraction, the fraction being the word's low 21 bits / 2^21, and each operation is
+ * rounded by itself, at fraction 0 too: an entry of -0 reads there as +0 unless the next is below it. An entry that is
+ * infinite or NaN reads as NaN, and so does the one before a NaN; the one before an infinity reads as NaN at fraction 0
+ * and as that infinity past it, and so do two entries whose difference is too large for a float.
  *
  * A block may be run in any consecutive ranges, with refused calls among them: a lane that is active in all accepted
  * calls has the same output and the same state as from one call, NaN counting as one value, provided that the other

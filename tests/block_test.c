@@ -1,6 +1,6 @@
 /* Spans and block runs from C. Prints how many checks pass, "P of T"; with the word `numbers`, the header's sine and
  * arctangent numbers. */
-#include "check.h"
+#include "cycle_model.h"
 
 /* In the form of the oracle's `constants`. */
 static void print_numbers(void)
@@ -105,7 +105,7 @@ static void check_off(void)
     const uint32_t *n = shaper_card_counts;
     memset(&v, 0, sizeof v);
     for (unsigned i = 0; i < RENDERED; i++)
-        buffer[i] = cycle[words[i] >> 21];
+        buffer[i] = read_at(cycle, words[i]);
     shaper_decimate(FACTOR, LANES, ACTIVE, FRAMES, n[0], n[1], n[2], shaper_card_coefs, SHAPER_COEFS, buffer, RENDERED,
         state, STATE);
     check(answered(run(SHAPER_OFF, SHAPER_OFF, 0, FRAMES, SHAPER_NUMBERS, &v), SHAPER_ACCEPTED, FRAMES),

@@ -117,7 +117,7 @@ static struct shaper_answer call(enum kind kind, const struct call *c)
 }
 
 /* The first cells of a buffer are the same at any length. Amounts are percent, words any with the phase's end among
- * them, which reads the cycle's and the curve's last cells, and the rest from -1 to 1. */
+ * them, which reads from the cycle's last cell to its first, and the curve's last cells, and the rest from -1 to 1. */
 static void fill(unsigned b, void *cells, size_t length)
 {
     uint32_t s = 0x5eed + b;

@@ -1,5 +1,5 @@
 /* The headers from C++, without C's designated initialisers. Prints how many checks pass, "P of T". */
-#include "check.h"
+#include "cycle_model.h"
 #include "shaper_block.h"
 #include "shaper_names.h"
 
@@ -86,7 +86,7 @@ int main()
     for (unsigned i = 0; i < FRAMES * FACTOR * LANES; i++) {
         steps[i] = shaper_step(440.0, RATE, FACTOR);
         words[i] = steps[i] * (i / LANES);
-        buffer[i] = cycle[words[i] >> 21];
+        buffer[i] = read_at(cycle, words[i]);
     }
     const shaper_block b = filled();
     check(answered(shaper_prepare_block(&b), SHAPER_ACCEPTED, FRAMES), "the answer of prepare");

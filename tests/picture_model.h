@@ -4,7 +4,7 @@
 #ifndef PICTURE_MODEL_H
 #define PICTURE_MODEL_H
 
-#include "shaper.h"
+#include "cycle_model.h"
 
 #include <math.h>
 
@@ -145,11 +145,6 @@ static float steepest(const float *curve)
     return kept(most * 1024.0f, 1.0f, 16.0f);
 }
 
-static float read_at(const float *cycle, uint32_t word)
-{
-    return cycle[word >> 21];
-}
-
 static void push(struct reads *reads, uint32_t word, float gain)
 {
     if (reads->count < 4) {
@@ -277,7 +272,7 @@ static void model(const struct panel *p, float *picture, uint32_t points)
     const float a[SHAPER_SLOTS] = {kept(s[0].amount / 100.0f, 0.0f, 1.0f), kept(s[1].amount / 100.0f, 0.0f, 1.0f)};
     const float half = 0.25f * (1.0f / (float)points), inner = steepness(s[1].mode, a[1], p->curve);
     for (uint32_t i = 0; i < points; i++) {
-        struct reads reads = {{(uint32_t)(uint64_t)((double)i / points * 4294967296.0)}, {1.0f}, 1};
+        struct reads reads = {{word_at(i, points)}, {1.0f}, 1};
         reads = mapped(p, &s[0], a[0], half * inner, mapped(p, &s[1], a[1], half, reads));
         picture[i] = reads.gain[0] * read_at(p->cycle, reads.word[0]);
         for (unsigned r = 1; r < reads.count; r++)

@@ -1,7 +1,6 @@
 /* The picture on the panel (shaper_preview): its values, a model for some of the modes, the slots' order, silent
  * sources, what is written and what is not, refusals, and all pairs of modes. Prints how many checks pass, "P of T". */
 #define _DEFAULT_SOURCE /* MAP_ANONYMOUS */
-#include "check.h"
 #include "picture_model.h"
 
 #include <stdlib.h>
@@ -55,20 +54,6 @@ static void fill_with(float *numbers, size_t count, float number)
         numbers[i] = number;
 }
 
-/* All NaNs are one value. */
-static int is_same(float a, float b)
-{
-    return bits(a) == bits(b) || (isnan(a) && isnan(b));
-}
-
-static int are_same(const float *a, const float *b, size_t count)
-{
-    for (size_t i = 0; i < count; i++)
-        if (!is_same(a[i], b[i]))
-            return 0;
-    return 1;
-}
-
 static int are_all(const float *numbers, size_t count, float number)
 {
     for (size_t i = 0; i < count; i++)
@@ -110,38 +95,55 @@ static int draws(const struct panel *p, size_t points)
     return draws_over(77.0f, p, points);
 }
 
+/* By three points the cycle is read at 0x55555555 and 0xaaaaaaaa: 1398101 and 699050 parts of 2^21 past entries 682 and
+ * 1365. At 682 a float counts parts of 2^14, of which these are 10922.66, and at 1365 parts of 2^13, 2730.66. */
 static void check_reads(void)
 {
     struct panel p = panel_of(SHAPER_OFF, 0.0f, SHAPER_OFF, 0.0f);
     make_ramp();
     check(draws(&p, 4) && picture[0] == 0.0f && picture[1] == 512.0f && picture[2] == 1024.0f && picture[3] == 1536.0f,
         "four points");
-    check(draws(&p, 3) && picture[0] == 0.0f && picture[1] == 682.0f && picture[2] == 1365.0f, "three points");
+    check(draws(&p, 3) && picture[0] == 0.0f && picture[1] == 682.0f + 10923.0f / 16384.0f
+            && picture[2] == 1365.0f + 2731.0f / 8192.0f,
+        "three points");
     check(draws(&p, SHAPER_CYCLE) && are_same(picture, cycle, SHAPER_CYCLE), "a point for each entry");
-    check(draws(&p, SHAPER_POINTS) && picture[1] == 0.0f && picture[2] == 1.0f && picture[4095] == 2047.0f,
+    check(draws(&p, SHAPER_POINTS) && picture[1] == 0.5f && picture[2] == 1.0f && picture[4093] == 2046.5f
+            && picture[4094] == 2047.0f,
         "two points for each entry");
+    check(picture[4095] == 1023.5f, "half way from entry 2,047 to entry 0");
     fill_with(cycle, SHAPER_CYCLE, 2.0f);
     p = panel_of(SHAPER_HARD_CLIP, 0.0f, SHAPER_OFF, 0.0f);
     check(draws(&p, 5) && are_all(picture, 5, 1.0f), "2 clipped at 1");
 }
 
 /* At 50 % the read is taken once and its opposite no time: a product that can still be NaN, or the zero that -0 needs
- * to become +0. */
+ * to become +0. Before another -0 an entry of -0 reads as +0, as their difference is +0; before -1 it reads as -0, as
+ * the difference of -1, taken no time, is -0. */
 static void check_odd_even(void)
 {
     const struct panel p = panel_of(SHAPER_ODD_EVEN, 50.0f, SHAPER_OFF, 0.0f);
     fill(cycle, SHAPER_CYCLE, tame);
     check(draws(&p, SHAPER_CYCLE) && are_same(picture, cycle, SHAPER_CYCLE), "a cycle that is kept");
     fill_with(cycle, SHAPER_CYCLE, -0.0f);
-    check(draws(&p, 64) && are_all(picture, 64, -0.0f), "a cycle of -0");
-    cycle[1024] = 1.0f, cycle[1536] = -1.0f;
+    check(draws(&p, 64) && are_all(picture, 64, 0.0f), "a cycle of -0, which reads as +0");
+    cycle[1] = cycle[513] = -1.0f, cycle[1024] = 1.0f, cycle[1536] = -1.0f;
     check(draws(&p, 4) && is_same(picture[0], 0.0f) && is_same(picture[1], -0.0f) && picture[2] == 1.0f
             && picture[3] == -1.0f,
         "-0 opposite 1 and opposite -1");
-    cycle[1024] = INFINITY;
-    check(draws(&p, 4) && isnan(picture[0]) && is_same(picture[1], -0.0f) && is_same(picture[2], INFINITY)
-            && picture[3] == -1.0f,
-        "an infinite entry and its opposite");
+}
+
+/* Entry 1025 is infinite. Before it the difference is infinite: taken no time it is NaN, and half of it is infinite. At
+ * it the difference is infinite the other way, and all is NaN. The opposites take these readings no time: NaN. */
+static void check_infinite(void)
+{
+    const struct panel p = panel_of(SHAPER_ODD_EVEN, 50.0f, SHAPER_OFF, 0.0f);
+    fill_with(cycle, SHAPER_CYCLE, 1.0f);
+    cycle[1025] = INFINITY;
+    check(draws(&p, SHAPER_POINTS) && isnan(picture[2048]) && is_same(picture[2049], INFINITY)
+            && isnan(picture[2050]) && isnan(picture[2051]),
+        "before an infinite entry and at it");
+    check(are_all(picture, 4, NAN), "opposite it");
+    check(are_all(picture + 4, 2044, 1.0f) && are_all(picture + 2052, 2044, 1.0f), "and nowhere else");
 }
 
 static void check_filters(void)
@@ -217,8 +219,9 @@ static void check_wave_order(void)
     check(draws(&p, 2) && picture[0] == 1.0f && picture[1] == -1.0f, "a map of slot 1 before a clip of slot 0");
 }
 
-/* With a point for each entry a picture can be lent as a cycle: both slots at once are one after the other, where at
- * least one is in the wave stage. So the second of two filters starts from silence, as the first does. */
+/* With a point for each entry a picture can be lent as a cycle, if it has no -0: both slots at once are one after the
+ * other, where at least one is in the wave stage. So the second of two filters starts from silence, as the first does.
+ */
 static void check_in_turn(uint32_t mode0, uint32_t mode1, int first)
 {
     static float between[SHAPER_CYCLE], whole[SHAPER_CYCLE];
@@ -250,7 +253,8 @@ static void check_all_in_turn(void)
     }
 }
 
-/* A mode with a source leaves the cycle, -0 and NaN too, at any amount; beside another mode it is as though Off. */
+/* A mode with a source leaves what is read of the cycle, NaN too, at any amount; beside another mode it is as though
+ * Off. */
 static void check_sources(void)
 {
     static const float amounts[] = {0.0f, 37.0f, 100.0f, NAN, -INFINITY};
@@ -261,7 +265,7 @@ static void check_sources(void)
             struct panel p = panel_of(SHAPER_OFF, 0.0f, SHAPER_OFF, 0.0f);
             fill(cycle, SHAPER_CYCLE, wild);
             for (unsigned i = 0; i < COUNT_OF(want); i++)
-                want[i] = cycle[i * SHAPER_CYCLE / COUNT_OF(want)];
+                want[i] = read_at(cycle, word_at(i, COUNT_OF(want)));
             p.slot[slot] = (struct slot){mode, tame(), amounts[k / 2]};
             check(draws(&p, COUNT_OF(want)) && are_same(picture, want, COUNT_OF(want)), "a source alone");
             p.slot[1 - slot] = (struct slot){drawn(SHAPER_MODES), tame(), 100.0f * tame()};
@@ -487,6 +491,7 @@ int main(void)
         plain[i] = (float)i / (SHAPER_CURVE - 1);
     check_reads();
     check_odd_even();
+    check_infinite();
     check_filters();
     check_amounts();
     check_phase_order();

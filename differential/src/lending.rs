@@ -1,5 +1,6 @@
 //! What a call is lent, and calls of the library, with the oracle's beside them, on the same cells.
 
+use crate::cycle;
 use crate::guards::{GUARDS, differs, unchanged};
 use crate::phases::nine;
 use crate::tally::Tally;
@@ -66,6 +67,7 @@ impl Lending {
         });
         if kind == Kind::Run {
             cells.words = rows(g, asked(Buffer::Words), call.lanes as usize, floats.is_wild());
+            cycle::to_entries(&mut cells.words[0], g);
         }
         let lengths = Buffer::ALL.map(|buffer| if is_lent(buffer) { asked(buffer) } else { 0 });
         Self { kind, cells, lengths }

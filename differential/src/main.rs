@@ -3,6 +3,7 @@
 
 mod blocks;
 mod card;
+mod cycle;
 mod decimate;
 mod files;
 mod guards;
@@ -24,7 +25,7 @@ use tally::{Part, Tally};
 const USAGE: &str = "usage: differential quick
        differential long MINUTES [SEED]
        differential COMPARISON COUNT [SEED]
-         leaves, phases, waves, decimate, singles, blocks, plans, pictures, files or largest
+         leaves, cycle, phases, waves, decimate, singles, blocks, plans, pictures, files or largest
        differential speed [leaves | lists | shapes | decimations | pictures | files | pairs | modes | ranges] [rows]
          all of it, or one table: leaves of lanes.rs, sums of read lists, slots of the wave stage, decimations,
          pictures, patch files; block runs of pairs of modes, of each mode alone, and of the pairs by lanes and by the
@@ -42,9 +43,11 @@ struct Comparison {
 /// Spans are in singles, blocks and largest; read lists in phases and singles; samples in waves and singles;
 /// state in waves, decimate, singles, blocks and largest; decimated buffers in decimate; whole blocks in
 /// blocks and largest; refusals in decimate, singles, blocks, plans, pictures and files; cuts, demand 3 by brute
-/// force, in blocks; what a block needs in plans; drawn cycles in pictures; patches in files.
-const COMPARISONS: [Comparison; 10] = [
+/// force, in blocks; what a block needs in plans; drawn cycles in pictures; patches in files. The reading of the
+/// cycle has words of its own in cycle.
+const COMPARISONS: [Comparison; 11] = [
     Comparison { name: "leaves", parts: leaves::PARTS, quick: 200_000, round: 1_000_000 },
+    Comparison { name: "cycle", parts: cycle::PARTS, quick: 1_000, round: 2_000 },
     Comparison { name: "phases", parts: phases::PARTS, quick: 400_000, round: 1_600_000 },
     Comparison { name: "waves", parts: waves::PARTS, quick: 150_000, round: 300_000 },
     Comparison { name: "decimate", parts: decimate::PARTS, quick: 2_000, round: 16_000 },

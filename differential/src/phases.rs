@@ -1,5 +1,6 @@
 //! The phase side against the oracle: mode facts, the curve, stretch, and read lists of two slots.
 
+use crate::cycle;
 use crate::probe::{self, LaneReads, Slots};
 use crate::tally::{Part, Tally};
 use programs::phases::{Case, REFUSED, slope_table};
@@ -166,7 +167,7 @@ fn stretch(count: u64, tally: &mut Tally) {
     }
 }
 
-fn slots(modes: [u32; 2], case: &Case) -> Slots {
+pub fn slots(modes: [u32; 2], case: &Case) -> Slots {
     Slots {
         mode0: modes[0],
         mode1: modes[1],
@@ -235,22 +236,22 @@ fn apply(count: u64, tally: &mut Tally) {
 /// The lengths of a run: words, and the room for samples.
 const LENGTHS: [(usize, usize); 6] = [(64, 64), (64, 40), (40, 64), (1, 1), (0, 64), (64, 0)];
 
-/// Sums of reads, of cycles from 0 to 1 and of any floats.
+/// Sums of reads, of cycles from -1 to 1, of any floats and of special neighbours.
 fn sums(count: u64, tally: &mut Tally) {
     let tables = tables(tally.seed(0xcafe));
     let mut g = tally.generator(0x27d4_eb2f);
-    let mut cycles: Vec<Vec<f32>> = vec![Vec::new(); 2];
-    for _ in 0..2049 {
-        cycles[0].push((g.draw() >> 8) as f32 / 8_388_608.0 - 1.0);
-        cycles[1].push(float(&mut g));
-    }
+    let cycles = [
+        cycle::guarded(|_| (g.draw() >> 8) as f32 / 8_388_608.0 - 1.0),
+        cycle::guarded(|_| float(&mut g)),
+        cycle::special(1, &mut g),
+    ];
     for i in 0..count / 64 {
         let modes = pair(i);
         let is_wild = i / 2 % 2 == 1;
         let curve = &tables[(i / (4 * 289)) as usize % tables.len()];
         // the entry past the cycle's is not read
-        let cycle = &cycles[(i / 5 % 2) as usize];
-        let cycle = &cycle[..2048 + (i / 10 % 2) as usize];
+        let cycle = &cycles[(i / 5 % 3) as usize];
+        let cycle = &cycle[..2048 + (i / 15 % 2) as usize];
         let case = Case::draw(&mut g, is_wild);
         let (n, room) = LENGTHS[if i % 8 == 7 { (i / 8 % 6) as usize } else { 0 }];
         let words: Vec<u32> = (0..n).map(|_| Case::draw(&mut g, is_wild).word).collect();
@@ -263,8 +264,9 @@ fn sums(count: u64, tally: &mut Tally) {
             tally.case(left, || format!("cells past a run of {:?}", Shown(modes, &case)));
             for (&word, &got) in words.iter().zip(&out[..done]) {
                 let case = Case { word, ..case };
-                let want = osc::read(Wave(cycle), &case.reads(modes, curve));
-                tally.same("sum of reads", Shown(modes, &case), got, want);
+                let list = case.reads(modes, curve);
+                tally.same("sum of reads", Shown(modes, &case), got, osc::read(Wave(cycle), &list));
+                tally.same_as("the model", "sum of reads", Shown(modes, &case), got, cycle::modelled_sum(cycle, &list));
             }
         };
         run(curve, cycle, n.min(room));

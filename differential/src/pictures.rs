@@ -298,23 +298,26 @@ fn alone(mode: u32, amount: f32, cycle: &[f32], points: usize) -> Vec<f32> {
     cells
 }
 
-/// Cycles as they are, clipped and settled; a -0 that is added to +0, and one that isn't.
+/// Cycles as they are, clipped and settled; a -0 that is added to +0, and one that isn't. It stands before a lower
+/// entry: before any other it reads as +0.
 fn values(_: u64, tally: &mut Tally) {
     let rising: Vec<f32> = (0..2048u16).map(f32::from).collect();
     let [ones, twos, minus_zeros] = [1.0, 2.0, -0.0].map(|x| vec![x; 2048]);
-    let [mut above, mut below] = [0.5, -0.5].map(|x| vec![x; 2048]);
-    [above[0], below[0]] = [-0.0; 2];
-    let pictures: [(u32, f32, &[f32], &[f32]); 12] = [
+    let [mut fall, mut opposed, mut rise] = [-0.5, -0.5, 0.5].map(|x| vec![x; 2048]);
+    [fall[0], opposed[0], rise[0]] = [-0.0; 3];
+    opposed[1024] = 0.5;
+    let pictures: [(u32, f32, &[f32], &[f32]); 13] = [
         (0, 0.0, &rising, &[0.0, 512.0, 1024.0, 1536.0]),
-        (0, 0.0, &rising, &[0.0, 682.0, 1365.0]),
+        (0, 0.0, &rising, &[0.0, 682.6667, 1365.3334]),
+        (0, 0.0, &rise, &[0.0, 0.5]),
+        (0, 0.0, &minus_zeros, &[0.0; 2048]),
         (HARD_CLIP, 0.0, &twos, &[1.0; 5]),
         (ODD_EVEN, 50.0, &rising, &rising),
-        (ODD_EVEN, 50.0, &above, &[0.0, 0.5]),
-        (ODD_EVEN, 50.0, &below, &[-0.0, -0.5]),
-        (ODD_EVEN, 50.0, &minus_zeros, &minus_zeros),
+        (ODD_EVEN, 50.0, &opposed, &[0.0, 0.5]),
+        (ODD_EVEN, 50.0, &fall, &[-0.0, -0.5]),
         (AM_1, 50.0, &rising, &rising),
-        (AM_1, 50.0, &above, &[-0.0, 0.5]),
-        (AM_1, 50.0, &minus_zeros, &minus_zeros),
+        (AM_1, 50.0, &opposed, &[-0.0, 0.5]),
+        (AM_1, 50.0, &fall, &[-0.0, -0.5]),
         (LOW_PASS, 0.0, &ones, &[1.0; 256]),
         (HIGH_PASS, 0.0, &ones, &[0.0; 256]),
     ];

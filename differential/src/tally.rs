@@ -47,10 +47,15 @@ impl Tally {
 
     /// The same answers, all NaNs being one value.
     pub fn same<I: Debug>(&mut self, name: &str, input: I, got: f32, want: f32) {
+        self.same_as("the oracle", name, input, got, want);
+    }
+
+    /// The same answers as those of `whose`.
+    pub fn same_as<I: Debug>(&mut self, whose: &str, name: &str, input: I, got: f32, want: f32) {
         let right = got.to_bits() == want.to_bits() || got.is_nan() && want.is_nan();
         self.case(right, || {
             format!(
-                "{name} of {input:x?}: {:08x}, the oracle {:08x}",
+                "{name} of {input:x?}: {:08x}, {whose} {:08x}",
                 got.to_bits(),
                 want.to_bits()
             )

@@ -16,7 +16,8 @@ use lib.Ieee.Back.{round-whole, whole-unique}
 use borrow.Author.Tests.{lt-ltb, le-ltb, ltb-true, ltb-false, eqb-true, eq-eqb, ne-eqb}
 use Rattle.floats.specs.Floor.{floorOf}
 use Rattle.floats.proofs.NearWhole.{near, part, two23, shifted, least, near-is, near-ge, near-le, sum-value, whole-part}
-use Rattle.floats.proofs.Values.{apart, lt-values, lt-negative, lt-across, sub-whole, sub-below, sub-negative, rise-round, fall-round, neg-round, neg-value}
+use Rattle.floats.proofs.Sums.{neg-value}
+use Rattle.floats.proofs.Values.{apart, lt-values, lt-negative, lt-across, sub-whole, sub-below, sub-negative, rise-round, fall-round, neg-round}
 
 -- ---- the values of the definition
 module _ (m : ℕ) (e : ℤ) where
@@ -145,7 +146,7 @@ module _ (m : ℕ) (e : ℤ) (below : m * up e < 8388608 * down e) where
     t-is = ap (λ (y : Float). add binary32 y two23) (sym (neg-round (m * up e * 1 + 8388608 * down e) (down e * 1)))
 
     pub sum-size : HasValue (neg S) true N 1
-    sum-size = neg-value S N (sum-value m e below)
+    sum-size = neg-value S false N 1 (sum-value m e below)
 
     small : c ≤ 2 ^ 24
     small = let q = quot-lt in let l = near-le (m * up e) (down e) (down-pos e) in omega arith

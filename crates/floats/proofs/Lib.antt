@@ -2,8 +2,10 @@
 pub mod Nan
 pub mod Read
 pub mod Patterns
+pub mod Sums
 pub mod Values
 pub mod Exact
+pub mod Own
 pub mod Fractions
 pub mod Entries
 pub mod PowerCases

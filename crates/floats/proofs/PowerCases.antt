@@ -19,7 +19,7 @@ use Rattle.floats.specs.Pattern.{fieldOf, significandOf, exponentOf}
 use Rattle.floats.specs.Exp2.{exp2Of, powAt, scaled, one28, minus126}
 use Rattle.floats.specs.Promises.{stepsOf}
 use Rattle.floats.proofs.Patterns.{ofBits-is, value}
-use Rattle.floats.proofs.Shifts.{sub-mul}
+use Rattle.floats.proofs.Sums.{sub-mul}
 
 -- ---- the cases of the definition
 pub of-nan : nan ≡ exp2Of nan

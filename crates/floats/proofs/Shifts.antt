@@ -2,7 +2,7 @@
 use mathlib.Core.Path.{_≡_, sym, ap, _∙_, subst}
 use mathlib.Core.Logic.{inl, inr}
 use Prim.Native.Nat.{ℕ, suc, _+_, _-_, _*_, _/_, _^_, _≤_, _<_, min}
-use native.Mathlib.Nat.{le-trans, le-of-eq, lt-of-lt-of-le, lt-of-not-le, not-le-of-lt, le-of-suc-le-suc, mul-assoc, mul-comm, mul-le-mul, mul-pos, mul-sub, le-of-mul-le-mul-right, eq-zero-or-pos, mul-div-cancel, zero-mul, sub-zero}
+use native.Mathlib.Nat.{le-trans, le-of-eq, lt-of-lt-of-le, lt-of-not-le, not-le-of-lt, le-of-suc-le-suc, mul-assoc, mul-comm, mul-le-mul, mul-pos, le-of-mul-le-mul-right, eq-zero-or-pos, mul-div-cancel, zero-mul, sub-zero}
 use native.Mathlib.Decide.{decLe}
 use native.Mathlib.Omega.{arith}
 use lib.Arith.{digits-div}
@@ -10,9 +10,7 @@ use lib.Pow.{pow-add, pow-pos, pow-mono, pow-lt, shl-lt}
 use lib.Ieee.Nearest.{div-same}
 use Rattle.floats.specs.Pattern.{significandOf, exponentOf}
 use Rattle.floats.proofs.Patterns.{significand-ge}
-
-pub sub-mul : (a b k : ℕ) → (a - b) * k ≡ a * k - b * k
-sub-mul a b k = mul-comm (a - b) k ∙ mul-sub k a b ∙ ap (λ (x : ℕ). x - k * b) (mul-comm k a) ∙ ap (λ (x : ℕ). a * k - x) (mul-comm k b)
+use Rattle.floats.proofs.Sums.{sub-mul}
 
 -- ---- the place of an f32 that is 128 at most
 pub exponent-le : (b : ℕ) → significandOf b * 2 ^ exponentOf b ≤ 8388608 * 2 ^ 133 → exponentOf b ≤ 133

@@ -1,11 +1,13 @@
 -- Read lists: `ReadList` of phase.rs and `LaneReads` of osc/mod.rs. Definitions only.
-use Prim.Native.Nat.{ℕ, zero, suc, _+_, _-_, _/_, _^_, max}
+use Prim.Native.Nat.{ℕ, zero, suc, _+_, _-_, _/_, _%_, _^_, max}
 use mathlib.Core.Bool.{true, false, cond}
 use mathlib.Core.List.{List, [], _∷_}
+use lib.IntN.{pos}
 use lib.Dec.{ltb, eqb}
 use lib.ListN.{getD, set, replicate}
-use lib.Ieee.{Float, nan}
-use Rattle.floats.specs.F32.{_⊕_, _⊖_, _⊗_, 1f, ½f}
+use lib.Ieee as Ieee
+use lib.Ieee.{Float, nan, binary32}
+use Rattle.floats.specs.F32.{_⊕_, _⊖_, _⊗_, _⊘_, bits, 1f, ½f}
 use Rattle.floats.specs.Steps.{_>>=_, if_then_else_}
 use Rattle.lanes.specs.Lane.{anyOf}
 use Rattle.lanes.specs.Maths.{aboveOf, pickOf}
@@ -65,9 +67,17 @@ shiftOf list offset = record { word = moveFirst offset (max (list .count) 1) (li
 unfoldable pub outgoingOf : ReadList → LaneReads
 outgoingOf r = record { phase = r .word; gain = r .gain; count = cond (r .weighted) (r .count) 0 }
 
--- the entry of the lent cycle that a word reads: word / 2 ^ 21, rounded down
+-- how far a word lies past its entry, in entries: its low 21 bits divided by 2 ^ 21
+unfoldable pub fractionOf : ℕ → Float
+fractionOf word = Ieee.ofInt binary32 (pos (word % 2 ^ 21)) ⊘ bits 0x4a00_0000
+
+-- the lent cycle at a word, between entry word / 2 ^ 21, rounded down, and the next; the one after 2,047 is entry 0
 unfoldable pub cycleAt : List Float → ℕ → Float
-cycleAt cycle word = getD cycle (word / 2 ^ 21) nan
+cycleAt cycle word = do
+  fraction ← fractionOf word
+  first ← getD cycle (word / 2 ^ 21) nan
+  next ← getD cycle ((word / 2 ^ 21 + 1) % 2048) nan
+  first ⊕ (next ⊖ first) ⊗ fraction
 
 -- the product of read i
 abbrev pub productAt : List Float → List ℕ → List Float → ℕ → Float

@@ -6,7 +6,7 @@ use lanes::add_words;
 ghost use mathlib.Core.Path.{_≡_};
 ghost use Prim.Native.Nat.{_≤_};
 ghost use lib.ListN.{length};
-ghost use Rattle.reads.specs.Reads.{startOf, emptyOf, weightedOf, pushOf, oneRead, shiftOf, outgoingOf, cycleAt, readSum};
+ghost use Rattle.reads.specs.Reads.{startOf, emptyOf, weightedOf, pushOf, oneRead, shiftOf, outgoingOf, fractionOf, cycleAt, readSum};
 ghost use Rattle.reads.specs.Branches.{appended};
 
 // The most reads of a list.
@@ -155,12 +155,25 @@ pub fn outgoing(list: ReadList) -> LaneReads
     LaneReads { phase, gain, count }
 }
 
-// The lent cycle of 2,048 samples at a phase word.
+// How far a word lies past its entry, in entries. From 4 to 8 the patterns of f32 count 2^-21, so that the
+// word's low 21 bits need no cast and no division, and 4 comes off exactly.
+fn fraction(word: u32) -> f32
+    ensures { λ r. ⌜ r ≡ fractionOf word ⌝ }
+{
+    f32::from_bits(0x4080_0000 + word % 0x20_0000) - 4.0
+}
+
+// The lent cycle of 2,048 samples at a phase word: between the word's entry and the next, and after the
+// last comes the first.
 pub fn read_cycle(cycle: &[f32], word: u32) -> f32
     requires { ⌜ 2048 ≤ length (now cycle) ⌝ }
     ensures { λ r. ⌜ r ≡ cycleAt (now (cycle .entry)) word ⌝ }
 {
-    cycle[(word / 0x20_0000) as usize]
+    let t = fraction(word);
+    let first = cycle[(word / 0x20_0000) as usize];
+    // A word goes round as the cycle does.
+    let next = cycle[(add_words(word, 0x20_0000) / 0x20_0000) as usize];
+    first + (next - first) * t
 }
 
 // The sum of a list's reads: of count 0 the first word's with no gain, otherwise the products from the

@@ -12,6 +12,8 @@ use Rattle.grid.specs.Cells.{columns}
 use Rattle.grid.specs.Lanes.{Each}
 use Rattle.limits.specs.Lengths.{subBlock, hostLength, spanLength, curveLength, cycleLength, Holds}
 use Rattle.halfband.specs.declared.design.Designs.{Designs}
+use Rattle.phase.specs.declared.map.Slot.{Slot}
+use Rattle.reads.specs.Reads.{cycleAt}
 use Rattle.voice.specs.declared.control.Control.{Control}
 use Rattle.voice.specs.PhaseRun.{fmScale, readsOf}
 use Rattle.voice.specs.SumRun.{summedOf}
@@ -36,6 +38,13 @@ frameOf s scale curve cycle control0 control1 inner word step v = do
     sample = shaped .y;
     voice = record { pairs0 = shaped .pairs0; pairs1 = shaped .pairs1; fm0 = raw .fm0; fm1 = raw .fm1; last = shaped .last };
   }
+
+-- r is the frame of one read and two slots without a state, whatever is asked for beside it
+pub record Levelled (r : Stepped) (slot0 slot1 : Slot) (cycle : List Float) (control0 control1 : Control) (word : ℕ) (v : Voice) : Type 0 where
+  pub stepped : (sk : List Float) (step : ℕ) → r ≡ (shapedOf sk slot0 slot1 control0 control1 step (cycleAt cycle word) (v .pairs0) (v .pairs1) (v .last) >>= λ shaped. record {
+    sample = shaped .y;
+    voice = record { pairs0 = shaped .pairs0; pairs1 = shaped .pairs1; fm0 = v .fm0; fm1 = v .fm1; last = shaped .last };
+  })
 
 -- a slot's amount at a host frame, and its power at that amount
 unfoldable pub driveAt : ℕ → Float → Option (List Float) → ℕ → Drive

@@ -4,8 +4,13 @@ use crate::state::Stepped;
 use crate::state::Voice;
 use controls::heard_at;
 use grid::place;
+use phase::Slot;
+use reads::read_cycle;
 use shaper::Settings;
 use voice::Control;
+use voice::has_state;
+use voice::in_phase;
+use voice::shape_level;
 use voice::shape_of;
 use voice::sum_of;
 ghost use mathlib.Core.Path.{_≡_};
@@ -14,12 +19,14 @@ ghost use lib.ListN.{length};
 ghost use Rattle.floats.specs.Exp2.{entries};
 ghost use Rattle.grid.specs.Cells.{column};
 ghost use Rattle.limits.specs.Lengths.{curveLength, cycleLength};
+ghost use mathlib.Core.Bool.{false};
 ghost use Rattle.voice.specs.Power.{powerOf};
+ghost use Rattle.voice.specs.WaveRun.{hasState};
 ghost use Rattle.controls.specs.Controls.{lentOf};
-ghost use Rattle.render.specs.Frames.{frameOf, frameAt, Powered, Framed};
+ghost use Rattle.render.specs.Frames.{frameOf, frameAt, Levelled, Powered, Framed};
 
-// One rendered frame, from what drives the slots, the prepared slope, the phase word and its step.
-fn frame_of(
+// `frame_of` where a slot maps or has a state: it takes the settings' numbers.
+fn full_frame(
     powers: &[u32; 257],
     s: Settings,
     scale: f32,
@@ -91,6 +98,92 @@ fn frame_of(
         sample: shaped.y,
         voice: voice,
     }
+}
+
+// `frame_of` where no slot maps or has a state: one read, through slots that set its level at the most.
+fn level_frame(
+    slot0: Slot,
+    slot1: Slot,
+    cycle: &[f32],
+    control0: Control,
+    control1: Control,
+    word: u32,
+    v: Voice,
+) -> Stepped
+    requires { ⌜ cycleLength ≤ length (now cycle) ⌝ ∗ ⌜ hasState (slot0 .mode) ≡ false ⌝ ∗ ⌜ hasState (slot1 .mode) ≡ false ⌝ }
+    ensures { λ r. ⌜ Levelled r slot0 slot1 (now (cycle .entry)) control0 control1 word v ⌝ }
+{
+    let x = read_cycle(cycle, word);
+    let before0 = v.pairs0;
+    let before1 = v.pairs1;
+    let shaped = shape_level(
+        slot0,
+        slot1,
+        control0,
+        control1,
+        x,
+        before0,
+        before1,
+        v.last,
+    );
+    let pairs0 = shaped.pairs0;
+    let pairs1 = shaped.pairs1;
+    let voice = Voice {
+        pairs0: pairs0,
+        pairs1: pairs1,
+        fm0: v.fm0,
+        fm1: v.fm1,
+        last: shaped.last,
+    };
+    Stepped {
+        sample: shaped.y,
+        voice: voice,
+    }
+}
+
+// One rendered frame, from what drives the slots, the prepared slope, the phase word and its step. The
+// settings' numbers are copied where they are taken: slots that need none are spared it.
+fn frame_of(
+    powers: &[u32; 257],
+    s: Settings,
+    scale: f32,
+    curve: &[f32],
+    cycle: &[f32],
+    control0: Control,
+    control1: Control,
+    power0: f32,
+    power1: f32,
+    inner: f32,
+    word: u32,
+    step: u32,
+    v: Voice,
+) -> Stepped
+    requires { ⌜ now powers ≡ entries ⌝ ∗ ⌜ curveLength ≤ length (now curve) ⌝ ∗ ⌜ cycleLength ≤ length (now cycle) ⌝ }
+    requires { ⌜ power0 ≡ powerOf (s .slot0 .mode) (control0 .amount) ⌝ ∗ ⌜ power1 ≡ powerOf (s .slot1 .mode) (control1 .amount) ⌝ }
+    ensures { λ r. ⌜ r ≡ frameOf s scale (now (curve .entry)) (now (cycle .entry)) control0 control1 inner word step v ⌝ }
+{
+    let slot0 = s.slot0;
+    let slot1 = s.slot1;
+    let mapped = in_phase(slot0.mode) | in_phase(slot1.mode);
+    let stated = has_state(slot0.mode) | has_state(slot1.mode);
+    if mapped | stated {
+        return full_frame(
+            powers,
+            s,
+            scale,
+            curve,
+            cycle,
+            control0,
+            control1,
+            power0,
+            power1,
+            inner,
+            word,
+            step,
+            v,
+        );
+    }
+    level_frame(slot0, slot1, cycle, control0, control1, word, v)
 }
 
 // Rendered frame `sub` of host frame `host`.

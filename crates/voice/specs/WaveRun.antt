@@ -40,3 +40,7 @@ shapedOf sk slot0 slot1 control0 control1 step x pairs0 pairs1 last = do
   first ← slotOf sk slot0 control0 increment x pairs0
   second ← slotOf sk slot1 control1 increment (first .y) pairs1
   record { y = second .y; pairs0 = first .state; pairs1 = second .state; last = kept }
+
+-- r is what two slots without a state make of x, whatever the sine's numbers and the step
+abbrev pub ShapedBy : Shaped → Slot → Slot → Control → Control → Float → Svf → Svf → Float → Type 0
+ShapedBy r slot0 slot1 control0 control1 x pairs0 pairs1 last = (sk : List Float) (step : ℕ) → r ≡ shapedOf sk slot0 slot1 control0 control1 step x pairs0 pairs1 last

@@ -19,4 +19,6 @@ pub use power::power_of;
 pub use sum_run::Summed;
 pub use sum_run::sum_of;
 pub use wave_run::Shaped;
+pub use wave_run::has_state;
+pub use wave_run::shape_level;
 pub use wave_run::shape_of;

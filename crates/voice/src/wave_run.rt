@@ -15,7 +15,7 @@ ghost use mathlib.Core.Bool.{false};
 ghost use Rattle.floats.specs.Exp2.{entries};
 ghost use Rattle.wave.specs.Slot.{wavePower};
 ghost use Rattle.voice.specs.Power.{powerOf};
-ghost use Rattle.voice.specs.WaveRun.{tracks, slotOf, hasState, Passes, shapedOf};
+ghost use Rattle.voice.specs.WaveRun.{tracks, slotOf, hasState, Passes, ShapedBy, shapedOf};
 
 // The sample that goes out, and the state after it.
 pub struct Shaped {
@@ -133,7 +133,7 @@ fn shape_stated(
 }
 
 // Whether a slot shapes with a state: a filter or a distortion.
-fn has_state(mode: u32) -> bool
+pub fn has_state(mode: u32) -> bool
     ensures { λ r. ⌜ r ≡ hasState mode ⌝ }
 {
     in_wave(mode) & !is_level(mode)
@@ -149,6 +149,35 @@ fn level_of(slot: Slot, control: Control, x: f32) -> f32
         return level(mode, Setting::Level(control.amount, control.source), x);
     }
     x
+}
+
+// `shape_of` where no slot has a state: no number of the sine is asked for, and the step is not looked at.
+pub fn shape_level(
+    slot0: Slot,
+    slot1: Slot,
+    control0: Control,
+    control1: Control,
+    x: f32,
+    pairs0: Svf,
+    pairs1: Svf,
+    last: f32,
+) -> Shaped
+    requires { ⌜ hasState (slot0 .mode) ≡ false ⌝ ∗ ⌜ hasState (slot1 .mode) ≡ false ⌝ }
+    ensures { λ r. ⌜ ShapedBy r slot0 slot1 control0 control1 x pairs0 pairs1 last ⌝ }
+{
+    let kept = if tracks(slot0.mode, slot1.mode) {
+        x
+    } else {
+        last
+    };
+    let first = level_of(slot0, control0, x);
+    let second = level_of(slot1, control1, first);
+    Shaped {
+        y: second,
+        pairs0: pairs0,
+        pairs1: pairs1,
+        last: kept,
+    }
 }
 
 // The sample `x` of a lane at one rendered frame, shaped by slot 0 and then slot 1, whose powers are
@@ -188,17 +217,5 @@ pub fn shape_of(
             last,
         );
     }
-    let kept = if tracks(slot0.mode, slot1.mode) {
-        x
-    } else {
-        last
-    };
-    let first = level_of(slot0, control0, x);
-    let second = level_of(slot1, control1, first);
-    Shaped {
-        y: second,
-        pairs0: pairs0,
-        pairs1: pairs1,
-        last: kept,
-    }
+    shape_level(slot0, slot1, control0, control1, x, pairs0, pairs1, last)
 }

@@ -1,5 +1,6 @@
 //! Drawn blocks, and the ranges that they are cut into.
 
+use crate::cycle;
 use crate::lending::{Floats, Lending};
 use crate::phases::tables;
 use programs::Generator;
@@ -8,7 +9,7 @@ use programs::decimations::{designs, numbers};
 use programs::singles::{Buffer, Call, Draws, Kind, Most};
 use ruled::api::halfband;
 
-/// Curves and cycles of every kind.
+/// Curves and cycles of every kind; the cycles with cells past them.
 pub struct Tables {
     curves: Vec<Vec<f32>>,
     cycles: Vec<Vec<f32>>,
@@ -16,9 +17,10 @@ pub struct Tables {
 
 impl Tables {
     pub fn new(g: &mut Generator) -> Self {
-        let mut cycle = |floats: Floats| (0..2048).map(|_| floats.cell(Buffer::Cycle, g)).collect();
-        let cycles = [Floats::Tame, Floats::Tame, Floats::Mixed, Floats::Wild].map(&mut cycle).into();
-        Self { cycles, curves: tables(g.draw()) }
+        let kinds = [Floats::Tame, Floats::Tame, Floats::Mixed, Floats::Wild];
+        let drawn = kinds.map(|floats| cycle::guarded(|_| floats.cell(Buffer::Cycle, g)));
+        let special = [1, 32].map(|of| cycle::special(of, g));
+        Self { cycles: drawn.into_iter().chain(special).collect(), curves: tables(g.draw()) }
     }
 }
 

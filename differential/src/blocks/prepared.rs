@@ -2,6 +2,7 @@
 //! another. Each side goes on with its own spans and state.
 
 use super::drawn::{Block, Tables, ranges};
+use crate::cycle;
 use crate::guards::differs;
 use crate::lending::{pair, ported};
 use crate::tally::Tally;
@@ -43,6 +44,7 @@ impl Sides {
         }
         let cells = self.lengths[Buffer::Words as usize];
         self.ours.words = rows(g, cells, block.call.lanes as usize, block.floats.is_wild());
+        cycle::to_entries(&mut self.ours.words[0], g);
         self.theirs.words.clone_from(&self.ours.words);
     }
 

@@ -34,11 +34,16 @@ impl Table {
 pub struct Wave<'a>(pub &'a [f32]);
 
 impl Wave<'_> {
-    /// The sample at entry word / 2^21, rounded down (added: the crate's
-    /// own read interpolates a padded level).
+    /// The wave in a straight line between entry word / 2^21, rounded down,
+    /// and the next, which after 2,047 is entry 0; each operation rounds, at
+    /// an entry too (added: documents 01 and 02, E4; the crate's own read
+    /// interpolates a padded level).
     #[inline(always)]
     #[must_use]
     pub fn read(self, word: u32) -> f32 {
-        self.0[(word >> 21) as usize]
+        let at = (word >> 21) as usize;
+        let (first, next) = (self.0[at], self.0[(at + 1) % 2048]);
+        let fraction = (word & 0x1f_ffff) as f32 / 2_097_152.0;
+        first + (next - first) * fraction
     }
 }

@@ -1,9 +1,11 @@
-//! Document 01's values to hold on to, values of pictures, and the run of a
-//! range against the crate's own render and against its cuts.
+//! Document 01's values to hold on to, values of the cycle's read and of
+//! pictures, and the run of a range against the crate's own render and
+//! against its cuts.
 
 use ruled::api::halfband::{Design, designs, process};
 use ruled::api::wave::{Pair, curve, distort_smooth, integral};
 use ruled::api::{self, Card, Lent, Rows, Settings, State, lanes, phase};
+use ruled::osc::Wave;
 
 const ODD_EVEN: u32 = 16;
 const LOW_PASS: u32 = 17;
@@ -85,6 +87,76 @@ fn words() {
     assert_eq!(phase::unit(0xC000_0000), 0.75);
 }
 
+/// What a cycle reads as at each word, in patterns, every NaN's the same. It
+/// is lent longer than a cycle, and is NaN where no entry is set.
+fn reads<const N: usize>(entries: &[(usize, f32)], words: [u32; N]) -> [u32; N] {
+    let mut cycle = [f32::NAN; 2050];
+    for &(at, entry) in entries {
+        cycle[at] = entry;
+    }
+    words.map(|word| pattern(Wave(&cycle).read(word)))
+}
+
+fn pattern(x: f32) -> u32 {
+    if x.is_nan() { f32::NAN } else { x }.to_bits()
+}
+
+/// The entry after 2,047 is entry 0, and no other is looked at.
+#[test]
+fn reads_between_entries() {
+    let entries = [(0, 0.0), (1, 1.0), (2047, 8.0)];
+    let values = [
+        (0x0000_0000, 0.0),
+        (0x0000_0001, 1.0 / 2_097_152.0),
+        (0x0010_0000, 0.5),
+        (0x001f_ffff, 2_097_151.0 / 2_097_152.0),
+        (0x0020_0000, f32::NAN),
+        (0xffdf_ffff, f32::NAN),
+        (0xffe0_0000, 8.0),
+        (0xfff0_0000, 4.0),
+        (0xffff_ffff, 1.0 / 262_144.0),
+    ];
+    assert_eq!(
+        reads(&entries, values.map(|v| v.0)),
+        values.map(|v| pattern(v.1))
+    );
+    // Difference, product and sum round one by one. Product and sum in one
+    // step would give beb33332, difference and product beb33334, and both
+    // entries weighted beb33333.
+    let rounded = reads(&[(0, -2.0), (1, 0.2)], [0x0018_0000]);
+    assert_eq!(rounded, [0xbeb3_3330]);
+}
+
+/// At an entry the next one counts too: a -0 may lose its sign, and what is
+/// infinite is multiplied by 0.
+#[test]
+fn reads_at_entries() {
+    const INFINITE: f32 = f32::INFINITY;
+    const NAN: f32 = f32::NAN;
+    for (first, next, at_first, half_way) in [
+        (0.3, 0.3, 0.3, 0.3),
+        (-0.0, 1.0, 0.0, 0.5),
+        (-0.0, 0.0, 0.0, 0.0),
+        (-0.0, -0.0, 0.0, 0.0),
+        (-0.0, -1.0, -0.0, -0.5),
+        (0.0, -1.0, 0.0, -0.5),
+        (3e38, 3e37, 3e38, 1.65e38),
+        (3e38, -3e38, NAN, -INFINITE),
+        (1.0, INFINITE, NAN, INFINITE),
+        (1.0, -INFINITE, NAN, -INFINITE),
+        (INFINITE, 1.0, NAN, NAN),
+        (INFINITE, INFINITE, NAN, NAN),
+        (1.0, NAN, NAN, NAN),
+        (NAN, 1.0, NAN, NAN),
+    ] {
+        assert_eq!(
+            reads(&[(0, first), (1, next)], [0, 0x0010_0000]),
+            [at_first, half_way].map(pattern),
+            "{first} and {next}"
+        );
+    }
+}
+
 #[test]
 fn amounts_and_sources() {
     let identity = identity();
@@ -148,7 +220,7 @@ fn words_of_points() {
 fn pictures() {
     let rising: Vec<f32> = (0u16..2048).map(f32::from).collect();
     assert_eq!(picture(0, 0.0, &rising, 4), [0.0, 512.0, 1024.0, 1536.0]);
-    assert_eq!(picture(0, 0.0, &rising, 3), [0.0, 682.0, 1365.0]);
+    assert_eq!(picture(0, 0.0, &rising, 3), [0.0, 682.6667, 1365.3334]);
     assert_eq!(picture(HARD_CLIP, 0.0, &[2.0; 2048], 5), [1.0; 5]);
     assert_eq!(picture(ODD_EVEN, 50.0, &rising, 2048), rising);
     assert_eq!(picture(AM_1, 50.0, &rising, 2048), rising);
@@ -159,11 +231,11 @@ fn pictures() {
 }
 
 /// A point is the sum of its products from the first on, so that a -0 stays
-/// unless +0 is added to it.
+/// unless +0 is added to it. An entry of -0 reads as such beside a lower one.
 #[test]
 fn zeros_of_pictures() {
     let first = |mode: u32, opposite: f32| {
-        let mut cycle = [0.5; 2048];
+        let mut cycle = [-0.5; 2048];
         (cycle[0], cycle[1024]) = (-0.0, opposite);
         picture(mode, 50.0, &cycle, 2)[0].to_bits()
     };
