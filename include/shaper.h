@@ -206,9 +206,9 @@ struct shaper_valued shaper_stretch(
  *   numbers                 read, at least SHAPER_NUMBERS: the sine's five numbers and the arctangent's eight
  *                           (shaper_numbers)
  *   base0 .. curve          read, as in shaper_prepare
- *   cycle                   read, at least SHAPER_CYCLE: one cycle of the wave. A phase word lies at entry word / 2^21
- *                           and is read between it and the next, in a straight line; the one after entry 2047 is
- *                           entry 0. Further entries are not looked at
+ *   cycle                   read, at least SHAPER_CYCLE: one cycle of the wave. A phase word lies at entry word / 2^21,
+ *                           rounded down, and is read between it and the next, in a straight line; the one after entry
+ *                           2047 is entry 0. Further entries are not looked at
  *   words, steps            read, at least SHAPER_WORDS(frames, factor, lanes) each: phase words (2^32 is one cycle)
  *                           and how far they move in a rendered frame, by rendered frame of the block
  *   inner                   read, the span that shaper_prepare wrote for the block, at least SHAPER_SPAN(frames, lanes)
@@ -223,9 +223,11 @@ struct shaper_valued shaper_stretch(
  *                           Zeros start a lane
  *
  * A read is first + (next - first) * fraction, the fraction being the word's low 21 bits / 2^21, and each operation is
- * rounded by itself, at fraction 0 too: an entry of -0 reads there as +0 unless the next is below it. An entry that is
- * infinite or NaN reads as NaN, and so does the one before a NaN; the one before an infinity reads as NaN at fraction 0
- * and as that infinity past it, and so do two entries whose difference is too large for a float.
+ * rounded by itself. At fraction 0 a finite entry reads as itself if the next is finite and their difference is no
+ * larger than a float can be, but -0 reads as +0 unless the next is below it. An entry that is infinite or NaN reads as
+ * NaN at every fraction, and so does one before a NaN. A finite entry before an infinity reads as NaN at fraction 0 and
+ * as that infinity past it; one whose difference to a finite next is too large reads as NaN at fraction 0 and as an
+ * infinity of the next's sign past it.
  *
  * A block may be run in any consecutive ranges, with refused calls among them: a lane that is active in all accepted
  * calls has the same output and the same state as from one call, NaN counting as one value, provided that the other
@@ -279,7 +281,8 @@ struct shaper_needs {
     uint32_t pairs;  /* floats */
     uint32_t fm;     /* floats */
     uint32_t last;   /* floats */
-    uint32_t reads;  /* the most reads of the cycle that the block makes, all active lanes together */
+    uint32_t reads;  /* the most reads of the cycle that the block makes, all active lanes together; each looks at two
+                        entries */
     uint32_t steps;  /* the half-band sections' steps, all active lanes together; not the length of a run's `steps` */
 };
 
@@ -312,7 +315,7 @@ struct shaper_needs shaper_plan(
  * two sides; in slot 0, behind a map of slot 1, so wide only where that map is steepest. Sync's character softens its
  * restart as it does in the sound. Filters are drawn after 15 cycles, from silence on; their cutoff is at most 0.45
  * cycles a point, and a higher one is drawn as that. A mode with a source draws as in a run where the source is absent:
- * it leaves the cycle as it is. Nothing of a lane or a block takes part, and a panel may draw while blocks run. Turned
+ * it leaves what is read. Nothing of a lane or a block takes part, and a panel may draw while blocks run. Turned
  * down by SHAPER_BAD_MODE, SHAPER_BAD_FRAMES or SHAPER_SHORT_READ, tested in this order, an empty picture as any other.
  * Answers the points as its frames. */
 struct shaper_answer shaper_preview(

@@ -23,12 +23,13 @@ static const struct way {
 } ways[] = {
     {"a lane without slots", SHAPER_OFF, SHAPER_OFF, 0.0f, 1.0f, 0.0f},
     {"a list without weights", SHAPER_FM1, SHAPER_AM1, 0.0f, 1.0f, 0.0f},
+    {"a lane with a level", SHAPER_AM1, SHAPER_RM2, 0.0f, 1.0f, 0.0f},
     {"a picture's point", SHAPER_REMAP_DRAWN, SHAPER_OFF, 100.0f, 1.0f, 0.0f},
     {"a weighted list", SHAPER_ODD_EVEN, SHAPER_OFF, 50.0f, 1.0f, 0.0f},
     {"a difference", SHAPER_OFF, SHAPER_ODD_EVEN, 0.0f, 0.5f, -0.5f},
     {"a mean", SHAPER_ODD_EVEN, SHAPER_OFF, 100.0f, 0.5f, 0.5f}};
 
-enum { PLAIN, UNWEIGHTED, POINT, WEIGHTED };
+enum { PLAIN, UNWEIGHTED, LEVEL, POINT, WEIGHTED };
 
 static float cycle[SHAPER_CYCLE];
 static const struct shaper_readable lent_cycle = {cycle, SHAPER_CYCLE};
@@ -405,7 +406,8 @@ static void check_cut(const struct shaper_block *b)
 static void check_cuts(void)
 {
     static const uint32_t modes[][SHAPER_SLOTS] = {{SHAPER_OFF, SHAPER_OFF}, {SHAPER_ODD_EVEN, SHAPER_OFF},
-        {SHAPER_FM1, SHAPER_ODD_EVEN}, {SHAPER_PD_SELF, SHAPER_HARD_CLIP}, {SHAPER_SYNC, SHAPER_LOW_PASS}};
+        {SHAPER_FM1, SHAPER_ODD_EVEN}, {SHAPER_PD_SELF, SHAPER_HARD_CLIP}, {SHAPER_SYNC, SHAPER_LOW_PASS},
+        {SHAPER_AM1, SHAPER_OFF}, {SHAPER_PD_SELF, SHAPER_RM1}, {SHAPER_RM1, SHAPER_LOW_PASS}};
     static const float ends[] = {1.0f, -0.0f, 3e38f, -3e38f, INFINITY, NAN};
     static const float source[SHAPER_SOURCE(FRAMES, LANES)] = {0.01f, -0.02f, 0.03f};
     static const float base[LANES] = {20.0f, 50.0f, 70.0f};

@@ -1,5 +1,5 @@
-/* How near the reading of a lent cycle comes to the wave that the cycle was made of: a sine, and a bell as bright as
- * those whose tables buzzed. The library reads between two entries (request E4); with both slots off, at factor 1, its
+/* How near the reading of a lent cycle comes to the wave that the cycle was made of: a sine, and a bright bell,
+ * partials up to harmonic 64. The library reads between two entries (request E4); with both slots off, at factor 1, its
  * output is the reading. Beside it, by this program, the reading at one entry, as it was before. Prints a line for each
  * wave and each reading. */
 #include "shaper_block.h"

@@ -65,7 +65,7 @@ pub fn draw_steps(seed: u32, s: u32, steps: &mut [u32; 1280]) -> u32 {
     s
 }
 
-// Seven words of eight go on from the row before by its step, so that a lane reads an entry again.
+// Seven words of eight go on from the row before by its step, so that a lane reads near an entry again.
 fn word_at(i: usize, n: usize, draw: u32, steps: &[u32; 1280], words: &[u32; 1280]) -> u32
     requires { ⌜ i < 1280 ⌝ }
 {

@@ -4,7 +4,7 @@ use mathlib.Core.List.{List, [], _∷_, _++_}
 use lib.ListN.{replicate}
 use lib.Ieee as Ieee
 use lib.Ieee.{Float, nan, inf}
-use mathlib.Core.Bool.{false}
+use mathlib.Core.Bool.{true, false}
 use Rattle.floats.specs.F32.{bits, 0f, 1f, ½f, 4f}
 use Rattle.floats.specs.Steps.{_>>=_}
 use Rattle.reads.specs.Reads.{fractionOf, cycleAt}
@@ -41,10 +41,14 @@ pub zero-falls : cycleAt (cycle (bits 0x8000_0000) (bits 0xbf80_0000) 0f) 0 ≡ 
 unfolding cycleAt fractionOf _>>=_ Ieee.ofBits Ieee.ofInt Ieee.round Ieee.div Ieee.mul Ieee.sub Ieee.add
 zero-falls = refl
 
--- 3e38 beside -3e38: the difference overflows
+-- 3e38 beside -3e38: the difference overflows, at the entry and past it
 pub too-steep : cycleAt (cycle (bits 0x7f61_b1e6) (bits 0xff61_b1e6) 0f) 0 ≡ nan
 unfolding cycleAt fractionOf _>>=_ Ieee.ofBits Ieee.ofInt Ieee.round Ieee.div Ieee.mul Ieee.sub Ieee.add
 too-steep = refl
+
+pub steep-past-entry : cycleAt (cycle (bits 0x7f61_b1e6) (bits 0xff61_b1e6) 0f) 1 ≡ inf true
+unfolding cycleAt fractionOf _>>=_ Ieee.ofBits Ieee.ofInt Ieee.round Ieee.div Ieee.mul Ieee.sub Ieee.add
+steep-past-entry = refl
 
 -- 1 beside infinity, at its entry and half way
 pub beside-infinity : cycleAt (cycle 1f (bits 0x7f80_0000) 0f) 0 ≡ nan

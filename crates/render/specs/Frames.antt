@@ -39,7 +39,7 @@ frameOf s scale curve cycle control0 control1 inner word step v = do
     voice = record { pairs0 = shaped .pairs0; pairs1 = shaped .pairs1; fm0 = raw .fm0; fm1 = raw .fm1; last = shaped .last };
   }
 
--- r is the frame of one read and two slots without a state, whatever is asked for beside it
+-- r is the frame of one read and two slots without a state, whatever the sine's numbers and the step
 pub record Levelled (r : Stepped) (slot0 slot1 : Slot) (cycle : List Float) (control0 control1 : Control) (word : ℕ) (v : Voice) : Type 0 where
   pub stepped : (sk : List Float) (step : ℕ) → r ≡ (shapedOf sk slot0 slot1 control0 control1 step (cycleAt cycle word) (v .pairs0) (v .pairs1) (v .last) >>= λ shaped. record {
     sample = shaped .y;

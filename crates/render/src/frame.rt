@@ -25,7 +25,7 @@ ghost use Rattle.voice.specs.WaveRun.{hasState};
 ghost use Rattle.controls.specs.Controls.{lentOf};
 ghost use Rattle.render.specs.Frames.{frameOf, frameAt, Levelled, Powered, Framed};
 
-// `frame_of` where a slot maps or has a state: it takes the settings' numbers.
+// `frame_of` where a slot maps or has a state: it takes the sine's and the arctangent's numbers.
 fn full_frame(
     powers: &[u32; 257],
     s: Settings,
@@ -142,7 +142,8 @@ fn level_frame(
 }
 
 // One rendered frame, from what drives the slots, the prepared slope, the phase word and its step. The
-// settings' numbers are copied where they are taken: slots that need none are spared it.
+// sine's and the arctangent's numbers are copied where they are taken, so that slots which need none are
+// spared it.
 fn frame_of(
     powers: &[u32; 257],
     s: Settings,

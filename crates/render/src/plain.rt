@@ -1,4 +1,4 @@
-// A lane that no slot shapes: each rendered frame is the cycle's sample at the running word, and the state
+// A lane that no slot shapes: each rendered frame is the cycle read at the running word, and the state
 // stays.
 use grid::place;
 use reads::read_cycle;

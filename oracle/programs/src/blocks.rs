@@ -37,7 +37,8 @@ pub fn angles() -> Vec<f32> {
 }
 
 /// So many phase words and steps, steps first. Seven words of eight go on
-/// from the row before by its step, so that a lane reads an entry again.
+/// from the row before by its step, so that a lane reads near an entry
+/// again.
 pub fn rows(generator: &mut Generator, cells: usize, lanes: usize, is_wild: bool) -> [Vec<u32>; 2] {
     let steps: Vec<u32> = (0..cells)
         .map(|_| step(generator.draw(), is_wild))
