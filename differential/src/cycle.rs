@@ -105,6 +105,11 @@ const LANES: u32 = 4;
 const OFF: u32 = 0;
 /// Gives one read its gain and leaves its word.
 const FLIP: u32 = 9;
+/// Shapes what one read gives.
+const LOW_PASS: u32 = 17;
+/// Without a source they leave it.
+const AM_1: u32 = 58;
+const RM_2: u32 = 65;
 
 /// What slots are given that list a word as it is: with no gain if both are off, with one below 1 and above 0 if
 /// slot 0 flips, whose edges are that wide.
@@ -117,7 +122,7 @@ const PICTURE: Picture = Picture { modes: [OFF; 2], characters: [0.0; 2], amount
 struct Ways {
     curve: Vec<f32>,
     numbers: Vec<f32>,
-    /// A block run with both slots off by 1, whose output is the readings.
+    /// A block run by 1. Its output is the readings, but for a filter's.
     call: Call,
     lending: Lending,
 }
@@ -137,11 +142,17 @@ impl Ways {
         };
         let asked = |buffer: Buffer| buffer.asked(&call) as usize;
         let length = |buffer: Buffer| asked(buffer) + 2 * GUARDS;
-        let mut cells = Buffers::new(Kind::Run.buffers(), length, |_, _| f32::from_bits(GUARD));
-        cells.words = [vec![0; WORDS], vec![0; WORDS]];
+        let numbers = angles();
+        let mut cells = Buffers::new(Kind::Run.buffers(), length, |buffer, i| match buffer {
+            Buffer::Numbers if i < numbers.len() => numbers[i],
+            Buffer::Base0 | Buffer::Base1 => 50.0,
+            _ => f32::from_bits(GUARD),
+        });
+        cells.words = [vec![0; WORDS], vec![20_000_000; WORDS]];
         let is_lent = |buffer: &Buffer| Kind::Run.buffers().contains(buffer);
-        let lengths = Buffer::ALL.map(|buffer| if is_lent(&buffer) { asked(buffer) } else { 0 });
-        Self { curve: lookup_table(), numbers: angles(), call, lending: Lending { kind: Kind::Run, cells, lengths } }
+        let is_source = |buffer| matches!(buffer, Buffer::Source0 | Buffer::Source1);
+        let lengths = Buffer::ALL.map(|buffer| if is_lent(&buffer) && !is_source(buffer) { asked(buffer) } else { 0 });
+        Self { curve: lookup_table(), numbers, call, lending: Lending { kind: Kind::Run, cells, lengths } }
     }
 
     /// Lists of count 0, and of one read with a gain.
@@ -163,9 +174,17 @@ impl Ways {
         lending.cells.floats[Buffer::Cycle as usize].copy_from_slice(cells);
         lending.lengths[Buffer::Cycle as usize] = lent;
         lending.cells.words[0].copy_from_slice(words);
-        lending.compare(&self.call, tally);
-        for (&word, &mut got) in words.iter().zip(lending.part(Buffer::Output)) {
-            tally.same_as("the model", "sample of a plain lane", shown(cells, word), got, modelled(cells, word));
+        // each by code of its own: a lane without slots, one without maps and states, one without maps
+        for modes in [[OFF, OFF], [AM_1, RM_2], [LOW_PASS, OFF]] {
+            // a filter goes on with what it is left, so that a NaN would hide all that follows
+            lending.part(Buffer::Pairs).fill(0.0);
+            lending.compare(&Call { modes, ..self.call }, tally);
+            if modes[0] == LOW_PASS {
+                continue;
+            }
+            for (&word, &mut got) in words.iter().zip(lending.part(Buffer::Output)) {
+                tally.same_as("the model", "sample of a lane", (modes, shown(cells, word)), got, modelled(cells, word));
+            }
         }
     }
 
