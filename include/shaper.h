@@ -245,6 +245,35 @@ struct shaper_answer shaper_block_run(
     float *pairs, size_t pairs_length, float *fm, size_t fm_length, float *last, size_t last_length, float *state,
     size_t state_length);
 
+/* One lane's whole share of shaper_block_run: its rendered frames, their decimation, the copy to the range's output rows,
+ * and its state. For who traces a lane in one stretch, or spreads a range over time lane by lane.
+ *
+ *   lane         the lane, below active
+ *   all others   as in shaper_block_run, of the same lengths: those of all lanes, though one is touched
+ *
+ * It writes the lane's cells of the six written buffers, and no cell of another lane in any row. Turned down as
+ * shaper_block_run is, by the same lines in the same order, and by SHAPER_BAD_LANES also where `lane` is not below
+ * `active`: with no lane active it always is. Called once for each active lane, in any order and with the same arguments,
+ * it leaves all six buffers as one shaper_block_run does, work too, NaN counting as one value; and where that is turned
+ * down, so is each of these calls, with the same number. For its lane a call counts as a run of its range: a block may be
+ * made in consecutive ranges by both kinds of calls, and one lane may be taken through several ranges before the next
+ * starts. An empty range is accepted and changes nothing. Two calls at once on the same buffers are two writers of them,
+ * also for different lanes: the rule above forbids it. Answers the range's frames.
+ *
+ * After the call the first `count` rows of the lane's column of `work` are its output. At factor 1 they are the rendered
+ * samples as well; above it the decimation in place has overwritten these, and no buffer keeps them. */
+struct shaper_answer shaper_lane_run(
+    uint32_t mode0, uint32_t mode1, float character0, float character1, uint32_t factor, uint32_t lanes,
+    uint32_t active, uint32_t lane, uint32_t frames, uint32_t first, uint32_t count, uint32_t rate, uint32_t count0,
+    uint32_t count1, uint32_t count2, const float *coefs, size_t coefs_length, const float *numbers,
+    size_t numbers_length, const float *base0, size_t base0_length, const float *base1, size_t base1_length,
+    const float *mod0, size_t mod0_length, const float *mod1, size_t mod1_length, const float *source0,
+    size_t source0_length, const float *source1, size_t source1_length, const float *curve, size_t curve_length,
+    const float *cycle, size_t cycle_length, const uint32_t *words, size_t words_length, const uint32_t *steps,
+    size_t steps_length, const float *inner, size_t inner_length, float *output, size_t output_length, float *work,
+    size_t work_length, float *pairs, size_t pairs_length, float *fm, size_t fm_length, float *last, size_t last_length,
+    float *state, size_t state_length);
+
 /* Decimates `buffer` in place by `factor`.
  *
  *   factor          1, 2, 4 or 8; 1 changes nothing

@@ -149,6 +149,21 @@ static inline struct shaper_answer shaper_run_block(const struct shaper_block *b
         SHAPER_LENT(b->last), SHAPER_LENT(b->state));
 }
 
+/* shaper_lane_run of the same: one lane's share of the range. Once for each active lane, in any order, it leaves all
+ * buffers as shaper_run_block does. */
+static inline struct shaper_answer shaper_run_lane(const struct shaper_block *b, uint32_t lane, uint32_t first,
+    uint32_t count)
+{
+    const struct shaper_slot *s = b->slot;
+    return shaper_lane_run(s[0].mode, s[1].mode, s[0].character, s[1].character, b->factor, b->lanes, b->active, lane,
+        b->frames, first, count, b->rate, shaper_card_counts[0], shaper_card_counts[1], shaper_card_counts[2],
+        shaper_card_coefs, SHAPER_COEFS, shaper_numbers, SHAPER_NUMBERS, SHAPER_LENT(s[0].base), SHAPER_LENT(s[1].base),
+        SHAPER_LENT(s[0].mod), SHAPER_LENT(s[1].mod), SHAPER_LENT(s[0].source), SHAPER_LENT(s[1].source),
+        SHAPER_LENT(b->curve), SHAPER_LENT(b->cycle), SHAPER_LENT(b->words), SHAPER_LENT(b->steps),
+        SHAPER_LENT(b->inner), SHAPER_LENT(b->output), SHAPER_LENT(b->work), SHAPER_LENT(b->pairs), SHAPER_LENT(b->fm),
+        SHAPER_LENT(b->last), SHAPER_LENT(b->state));
+}
+
 #undef SHAPER_LENT
 
 #ifdef __cplusplus

@@ -65,10 +65,11 @@ module _ (call : CallNumbers) (reads : ReadLengths) (writes : WriteLengths) wher
   unfolding blockRefusal firstOf
   passes p = rw (p .modes, p .factors, p .lanes, p .ranges, p .rates, p .counts, p .read, p .written)
 
--- the number that the table gives for what was gathered
-pub by-parts : {call call' : CallNumbers} {reads reads' : ReadLengths} {writes writes' : WriteLengths} {number : ℕ}
-    → call ≡ call' → reads ≡ reads' → writes ≡ writes' → number ≡ blockRefusal call reads writes → number ≡ blockRefusal call' reads' writes'
-by-parts numbered read written h = h ∙ (λ j. blockRefusal (numbered j) (read j) (written j))
+-- the number that a table gives for what was gathered: the run's, or a lane's
+pub by-parts : (table : CallNumbers → ReadLengths → WriteLengths → ℕ)
+    {call call' : CallNumbers} {reads reads' : ReadLengths} {writes writes' : WriteLengths} {number : ℕ}
+    → call ≡ call' → reads ≡ reads' → writes ≡ writes' → number ≡ table call reads writes → number ≡ table call' reads' writes'
+by-parts table numbered read written h = h ∙ (λ j. table (numbered j) (read j) (written j))
 
 -- ---- line 7, of coefficients and numbers on slices
 

@@ -46,7 +46,7 @@ pub record Asked (c d : Call) : Type 0 where
   pub before : d .before ≡ c .before
 
 -- the first call with the buffers and the answer that the second ends with
-abbrev ended : Call → Call → Call
+abbrev pub ended : Call → Call → Call
 ended c d =
     record {
       settings = c .settings;
@@ -60,22 +60,25 @@ ended c d =
       answer = d .answer;
     }
 
+-- what holds of the second holds of that
+pub as-asked : (c d : Call) → Asked c d → (P : Call → Type 0) → P d → P (ended c d)
+as-asked c d asked P =
+    subst P
+    (λ j. record {
+      settings = asked .settings j;
+      range = asked .range j;
+      active = asked .active j;
+      coefs = asked .coefs j;
+      numbers = asked .numbers j;
+      lent = asked .lent j;
+      before = asked .before j;
+      after = d .after;
+      answer = d .answer;
+    })
+
 module _ (c d : Call) (asked : Asked c d) (one : Meets c) (did : Meets d) where
   two : Meets (ended c d)
-  two =
-      subst Meets
-      (λ j. record {
-        settings = asked .settings j;
-        range = asked .range j;
-        active = asked .active j;
-        coefs = asked .coefs j;
-        numbers = asked .numbers j;
-        lent = asked .lent j;
-        before = asked .before j;
-        after = d .after;
-        answer = d .answer;
-      })
-      did
+  two = as-asked c d asked Meets did
 
   same-number : refusalOf (ended c d) ≡ refusalOf c
   unfolding refusalOf

@@ -7,6 +7,7 @@ pub mod settings;
 pub use refusal::CallNumbers;
 pub use refusal::ReadLengths;
 pub use refusal::WriteLengths;
+pub use refusal::call_numbers;
 pub use refusal::read_lengths;
 pub use refusal::refused;
 pub use refusal::write_lengths;

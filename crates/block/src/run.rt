@@ -9,17 +9,20 @@ use limits::NUMBERS_LENGTH;
 use render::BlockSettings;
 use shaper::Range;
 use share::run_lane;
+ghost use Prim.Native.Nat.{_≤_};
 ghost use Rattle.limits.specs.Lengths.{coefsLength, numbersLength};
 ghost use Rattle.render.specs.Promises.{lent};
 ghost use Rattle.share.specs.Share.{buffers};
 ghost use Rattle.share.specs.Promises.{Shared};
 ghost use Rattle.block.specs.Call.{called, Taken, Meets};
 
-// A run that is accepted: the active lanes, one after another. No lane looks at another's numbers.
+// What is accepted, a run or a lane's: the lanes from ≤ lane < to, one after another. No lane looks at
+// another's numbers.
 pub fn run_lanes(
     b: BlockSettings,
     r: Range,
-    active: u32,
+    from: u32,
+    to: u32,
     base0: &[f32],
     base1: &[f32],
     mod0: &[f32],
@@ -38,17 +41,17 @@ pub fn run_lanes(
     last: &mut [f32],
     dec: &mut [f32],
 )
-    requires { ⌜ Taken b r active
+    requires { ⌜ from ≤ to ⌝ ∗ ⌜ Taken b r to
         (lent (now base0) (now base1) (now mod0) (now mod1) (now source0) (now source1) (now curve) (now cycle) (now words) (now steps) (now inner))
         (buffers (now output) (now work) (now pairs) (now fm) (now last) (now dec)) ⌝ }
     ensures { λ _. ⌜ Shared b r
         (lent (now (base0 .entry)) (now (base1 .entry)) (now (mod0 .entry)) (now (mod1 .entry)) (now (source0 .entry)) (now (source1 .entry)) (now (curve .entry)) (now (cycle .entry)) (now (words .entry)) (now (steps .entry)) (now (inner .entry)))
-        0 active
+        from to
         (buffers (now (output .entry)) (now (work .entry)) (now (pairs .entry)) (now (fm .entry)) (now (last .entry)) (now (dec .entry)))
         (buffers (now (output .exit)) (now (work .exit)) (now (pairs .exit)) (now (fm .exit)) (now (last .exit)) (now (dec .exit))) ⌝ }
 {
     let powers = floats::power_table();
-    for lane in 0..active as usize {
+    for lane in from as usize..to as usize {
         run_lane(
             &powers,
             b,
@@ -129,6 +132,7 @@ pub fn block_run(
     run_lanes(
         b,
         r,
+        0,
         active,
         base0,
         base1,

@@ -111,6 +111,7 @@ pub extern "C" fn shaper_block_run(
     run_lanes(
         b,
         Range { first, count },
+        0,
         active,
         base0,
         base1,

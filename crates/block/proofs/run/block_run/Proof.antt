@@ -1,6 +1,7 @@
 -- `run::block_run` meets its contract: one test, and what is accepted is run. Assumes nothing.
 use mathlib.Core.Path.{_≡_, sym, _∙_}
 use Prim.Native.Nat.{ℕ}
+use native.Mathlib.Omega.{arith}
 use borrow.Author.Needs.{needs}
 use Rattle.render.specs.Lane.{Lent}
 use Rattle.share.specs.Share.{Buffers, buffers}
@@ -58,7 +59,7 @@ by-table : (c : tie.After-refused) → c .refused .result ≡ number (entry c)
 by-table c =
     let w = gathered c in
     let r = measured w in
-    by-parts (numbered r .call-numbers .ensures) (r .read-lengths .ensures) (w .write-lengths .ensures) (c .refused .ensures)
+    by-parts blockRefusal (numbered r .call-numbers .ensures) (r .read-lengths .ensures) (w .write-lengths .ensures) (c .refused .ensures)
 
 none : (c : tie.Else1) → number (entry (c .before)) ≡ 0
 none c = sym (by-table (c .before)) ∙ c .if1 .left
@@ -74,7 +75,7 @@ run-lanes-requires : tie.Need-run-lanes-requires
 run-lanes-requires c κs =
     let e = tested c in
     let o = entry (e .before) in
-    accepted (o .args .b) (o .args .r) (o .args .active) 36 13 (reads o) (writes o) (none e)
+    (omega arith, accepted (o .args .b) (o .args .r) (o .args .active) 36 13 (reads o) (writes o) (none e))
 
 returns-2 : tie.Need-returns-2
 returns-2 c =

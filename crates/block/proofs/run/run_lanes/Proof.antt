@@ -12,14 +12,14 @@ use Rattle.block.proofs.run.run_lanes.Statement.{statement}
 use Rattle.block.proofs.run.run_lanes.Tie as tie
 
 abbrev Inv-loop : tie.InvT-loop
-Inv-loop b r active base0 base1 mod0 mod1 source0 source1 curve cycle words steps inner output₀ work₀ pairs₀ fm₀ last₀ dec₀ powers lane₀ end output work pairs fm last dec lane =
-    (lane ≤ active)
-    × Shared b r (lent base0 base1 mod0 mod1 source0 source1 curve cycle words steps inner) 0 lane
+Inv-loop b r from to base0 base1 mod0 mod1 source0 source1 curve cycle words steps inner output₀ work₀ pairs₀ fm₀ last₀ dec₀ powers lane₀ end output work pairs fm last dec lane =
+    ((from ≤ lane) × (lane ≤ to))
+    × Shared b r (lent base0 base1 mod0 mod1 source0 source1 curve cycle words steps inner) from lane
     (buffers output₀ work₀ pairs₀ fm₀ last₀ dec₀) (buffers output work pairs fm last dec)
 
 abbrev μ-loop : tie.MeasureT-loop
-μ-loop b r active base0 base1 mod0 mod1 source0 source1 curve cycle words steps inner output₀ work₀ pairs₀ fm₀ last₀ dec₀ powers lane₀ end output work pairs fm last dec lane =
-    active - lane
+μ-loop b r from to base0 base1 mod0 mod1 source0 source1 curve cycle words steps inner output₀ work₀ pairs₀ fm₀ last₀ dec₀ powers lane₀ end output work pairs fm last dec lane =
+    to - lane
 
 -- ---- the places on the way: from the loop's head back to the entry, and from a turn's end back to its head
 
@@ -54,23 +54,23 @@ abbrev here : tie.At-loop Inv-loop μ-loop → Buffers
 here c = let l = c .loop in buffers (l .output) (l .work) (l .pairs) (l .fm) (l .last) (l .dec)
 
 loop-holds : tie.Need-loop-holds Inv-loop μ-loop
-loop-holds c = (omega arith, shared-none _ _)
+loop-holds c = ((omega arith, start c .pre .0), shared-none _ _)
 
--- a turn's lane is active
-low : (c : tie.In-loop Inv-loop μ-loop) → turned c .loop .lane < start (tabled (turned c)) .args .active
+-- a turn's lane is one of them
+low : (c : tie.In-loop Inv-loop μ-loop) → turned c .loop .lane < start (tabled (turned c)) .args .to
 low c = c .loop-test .taken
 
 run-lane-requires : tie.Need-run-lane-requires Inv-loop μ-loop
 run-lane-requires c κs =
     let t = lends c in
     let l = turned t in
-    let p = start (tabled l) .pre in
+    let p = start (tabled l) .pre .1 in
     (tabled l .power-table .ensures .0, (omega (arith, low t, p .actives), (p .limits, (p .readable, writable-kept (p .writable) (l .loop .inv .1 .sizes)))))
 
 add-lane : tie.Need-add-lane Inv-loop μ-loop
 add-lane c =
     let t = lends (ran (ended c)) in
-    let p = start (tabled (turned t)) .pre in
+    let p = start (tabled (turned t)) .pre .1 in
     omega (arith, low t, p .actives, p .limits .lanes)
 
 loop-less : tie.Need-loop-less Inv-loop μ-loop
@@ -79,14 +79,15 @@ loop-less c = omega (arith, low (lends (ran (ended c))))
 loop-again : tie.Need-loop-again Inv-loop μ-loop
 loop-again c =
     let t = lends (ran (ended c)) in
-    (omega (arith, low t), shared-more (omega arith) (turned t .loop .inv .1) (ended c .run-lane .ensures))
+    let was = turned t .loop .inv in
+    ((omega (arith, was .0 .0), omega (arith, low t)), shared-more (was .0 .0) (was .1) (ended c .run-lane .ensures))
 
 returns : tie.Need-returns Inv-loop μ-loop
 returns c =
     let l = c .before in
     let o = start (tabled l) in
-    let all : l .loop .lane ≡ o .args .active = omega (arith, c .loop-test .left, l .loop .inv .0) in
-    subst (λ (k : ℕ). Shared (o .args .b) (o .args .r) (reads o) 0 k (writes o) (here l)) all (l .loop .inv .1)
+    let all : l .loop .lane ≡ o .args .to = omega (arith, c .loop-test .left, l .loop .inv .0 .1) in
+    subst (λ (k : ℕ). Shared (o .args .b) (o .args .r) (reads o) (o .args .from) k (writes o) (here l)) all (l .loop .inv .1)
 
 pub run-lanes-spec : {M : Type 1} → statement M
 run-lanes-spec =

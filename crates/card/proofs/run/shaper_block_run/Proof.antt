@@ -1,6 +1,7 @@
 -- `run::shaper_block_run` meets its contract: one test, and what is accepted is run. Assumes nothing.
 use mathlib.Core.Path.{_≡_, refl, sym, _∙_}
 use Prim.Native.Nat.{ℕ}
+use native.Mathlib.Omega.{arith}
 use borrow.Author.Needs.{needs}
 use lib.ListN.{length}
 use Rattle.halfband.specs.Floats.{designsOf}
@@ -79,7 +80,7 @@ by-table : (c : tie.After-refused) → c .refused .result ≡ number (entry c)
 unfolding settingsOf designsOf
 by-table c =
     let w = gathered c in
-    by-parts refl (measured w .read-lengths .ensures) (w .write-lengths .ensures) (c .refused .ensures)
+    by-parts blockRefusal refl (measured w .read-lengths .ensures) (w .write-lengths .ensures) (c .refused .ensures)
 
 none : (c : tie.Else1) → number (entry (c .before)) ≡ 0
 none c = sym (by-table (c .before)) ∙ c .if1 .left
@@ -102,8 +103,11 @@ run-lanes-requires c κs =
     let s = lends c in
     let e = tested s in
     let o = entry (e .before) in
-    rw (s .settings-of .ensures)
-    (accepted (settings o) (range o) (o .args .active) (length (o .args .coefs .now)) (length (o .args .numbers .now)) (reads o) (writes o) (none e))
+    (
+      omega arith,
+      rw (s .settings-of .ensures)
+          (accepted (settings o) (range o) (o .args .active) (length (o .args .coefs .now)) (length (o .args .numbers .now)) (reads o) (writes o) (none e)),
+    )
 
 returns-2 : tie.Need-returns-2
 returns-2 c =

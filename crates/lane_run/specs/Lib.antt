@@ -1,0 +1,3 @@
+-- The definitions that contracts cite (LaneCall), and what is proved of lanes' calls beside the run (Orders).
+pub mod LaneCall
+pub mod Orders
