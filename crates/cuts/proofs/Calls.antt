@@ -71,19 +71,22 @@ module _ (c : Call) (ok : refusalOf c ≡ 0) where
 
 -- ---- refused
 
+-- a call that leaves its buffers leaves every cell of the lane's state, wherever it was lent
+module _ (c : Call) (still : c .after ≡ c .before) where
+  carried : (x y : Float) → Carried c x y → x ≡ y
+  carried x y (kept-back e) = e
+  carried x y (lent-at w i p q) = sym p ∙ ap (λ (b : Buffers). getD (buffer w b) i nan) (sym still) ∙ q
+
+  pub still-state : (s t : List Float) → Around c s t → s ≡ t
+  still-state s t h = ext-getD nan s t (sym (h .size)) (λ i l. carried _ _ (h .cells i l))
+
 module _ (c : Call) (bad : refusalOf c ≡ 0 → ⊥) where
   -- it gives no output
   pub refused-rows : (lane : ℕ) → rowsOf lane c ≡ []
   refused-rows lane = rw (ne-eqb (refusalOf c) 0 bad)
 
-  -- and leaves every cell of the lane's state, wherever it was lent
-  module _ (m : Meets c) where
-    carried : (x y : Float) → Carried c x y → x ≡ y
-    carried x y (kept-back e) = e
-    carried x y (lent-at w i p q) = sym p ∙ ap (λ (b : Buffers). getD (buffer w b) i nan) (sym (m .refused bad)) ∙ q
-
-    pub refused-state : (s t : List Float) → Around c s t → s ≡ t
-    refused-state s t h = ext-getD nan s t (sym (h .size)) (λ i l. carried _ _ (h .cells i l))
+  pub refused-state : Meets c → (s t : List Float) → Around c s t → s ≡ t
+  refused-state m = still-state c (m .refused bad)
 
 -- ---- lanes that are not active
 

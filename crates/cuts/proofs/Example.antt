@@ -20,7 +20,7 @@ use Rattle.cuts.proofs.Made.{made, met-by}
 use Rattle.cuts.proofs.Runs.{range, whole, firstPart, secondPart, refused-lent, in-two}
 use Rattle.cuts.proofs.Cuts.{cuts}
 
-settings : BlockSettings
+unfoldable pub settings : BlockSettings
 settings =
     record {
       shaper =
@@ -37,7 +37,7 @@ settings =
     }
 
 -- modulation of slot 0, the source of slot 1
-lent : Lent
+unfoldable pub lent : Lent
 lent =
     record {
       controls = controlBuffers (replicate 2 ½f) (replicate 2 ½f) (replicate 12 ½f) [] [] (replicate 12 ½f);
@@ -48,7 +48,7 @@ lent =
       inner = replicate 2 ½f;
     }
 
-before : Buffers
+unfoldable pub before : Buffers
 before =
     record {
       output = replicate 12 0f;

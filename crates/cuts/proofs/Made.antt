@@ -1,7 +1,7 @@
 -- A call with any arguments and any buffers meets the contract with just the answer and the buffers that the definitions give: for every
 -- call there is one. Assumes nothing.
 use mathlib.Core.Path.{_≡_, refl, sym, _∙_, ap, fun-ext}
-use mathlib.Core.Bool.{cond}
+use mathlib.Core.Bool.{Bool, true, false, cond}
 use mathlib.Core.List.{List}
 use Prim.Native.Nat.{ℕ, _+_, _*_, _/_, _%_, _≤_, _<_}
 use native.Mathlib.Decide.{decLt, ℕ-discrete}
@@ -136,13 +136,10 @@ module _ (s : Settings) (r : Range) (b : Buffers) (holds : Writable s r b) (w : 
         dec = dec-laid j;
       }
 
--- ---- a call
+-- ---- a call that gives some lanes their share, `number` being its number by the table
 
-module _ (settings : BlockSettings) (range : Range) (active coefs numbers : ℕ) (lent : Lent) (before : Buffers) where
-  abbrev pub madeNumber : ℕ
-  madeNumber = blockRefusal (callNumbers settings range active) (readLengths coefs numbers lent) (writeLengths before)
-
-  -- a lane's columns before the call, and after it if it's active and accepted
+module _ (settings : BlockSettings) (range : Range) (lent : Lent) (before : Buffers) (number : ℕ) (on : ℕ → Bool) where
+  -- a lane's columns before the call, and after it if it is one of them and the call accepted
   abbrev entered : ℕ → Columns
   entered l = columnsOf (settings .shaper .lanes) before l
 
@@ -150,11 +147,61 @@ module _ (settings : BlockSettings) (range : Range) (active coefs numbers : ℕ)
   shared l = share settings range (inputsOf (settings .shaper) lent l) (entered l)
 
   -- every lane's after an accepted call
-  abbrev madeColumns : ℕ → Columns
-  madeColumns l = cond (ltb l active) (shared l) (entered l)
+  abbrev sharedColumns : ℕ → Columns
+  sharedColumns l = cond (on l) (shared l) (entered l)
 
-  unfoldable pub madeAfter : Buffers
-  madeAfter = cond (eqb madeNumber 0) (laidOut (settings .shaper .lanes) madeColumns (writeLengths before)) before
+  unfoldable pub sharedAfter : Buffers
+  sharedAfter = cond (eqb number 0) (laidOut (settings .shaper .lanes) sharedColumns (writeLengths before)) before
+
+  module _ (ok : number ≡ 0) where
+    shared-accepted : sharedAfter ≡ laidOut (settings .shaper .lanes) sharedColumns (writeLengths before)
+    unfolding sharedAfter
+    shared-accepted = rw (eq-eqb number 0 ok)
+
+    column-on : (l : ℕ) → on l ≡ true → sharedColumns l ≡ shared l
+    column-on l h = rw h
+
+    column-off : (l : ℕ) → on l ≡ false → sharedColumns l ≡ entered l
+    column-off l h = rw h
+
+    module _ {active : ℕ} (taken : Taken settings range active lent before) where
+      shared-left : (l : ℕ) → Left (settings .shaper) range (entered l) (sharedColumns l)
+      shared-left l = go (on l) refl
+        where
+          go : (b : Bool) → on l ≡ b → Left (settings .shaper) range (entered l) (sharedColumns l)
+          go true h = rw (column-on l h) (share-left settings range _ _ (good (taken .limits)) (taken .limits .range))
+          go false h = rw (column-off l h) (all-left _ _ _)
+
+      columns-after : (l : ℕ) → l < settings .shaper .lanes → columnsOf (settings .shaper .lanes) sharedAfter l ≡ sharedColumns l
+      columns-after l h =
+          ap (λ (b : Buffers). columnsOf (settings .shaper .lanes) b l) shared-accepted
+          ∙ columns-laid (settings .shaper) range before (taken .writable) sharedColumns l h (shared-left l)
+
+      pub shared-on : (l : ℕ) → l < settings .shaper .lanes → on l ≡ true → columnsOf (settings .shaper .lanes) sharedAfter l ≡ shared l
+      shared-on l low h = columns-after l low ∙ column-on l h
+
+      pub shared-off : (l : ℕ) → l < settings .shaper .lanes → on l ≡ false → columnsOf (settings .shaper .lanes) sharedAfter l ≡ entered l
+      shared-off l low h = columns-after l low ∙ column-off l h
+
+  pub shared-refused : (number ≡ 0 → ⊥) → sharedAfter ≡ before
+  unfolding sharedAfter
+  shared-refused bad = rw (ne-eqb number 0 bad)
+
+  pub shared-sizes : writeLengths sharedAfter ≡ writeLengths before
+  shared-sizes = go (ℕ-discrete number 0)
+    where
+      go : Dec (number ≡ 0) → writeLengths sharedAfter ≡ writeLengths before
+      go (yes ok) = ap writeLengths (shared-accepted ok) ∙ sizes-laid (settings .shaper .lanes) sharedColumns (writeLengths before)
+      go (no bad) = ap writeLengths (shared-refused bad)
+
+-- ---- the block run: the active lanes
+
+module _ (settings : BlockSettings) (range : Range) (active coefs numbers : ℕ) (lent : Lent) (before : Buffers) where
+  abbrev pub madeNumber : ℕ
+  madeNumber = blockRefusal (callNumbers settings range active) (readLengths coefs numbers lent) (writeLengths before)
+
+  abbrev actives : ℕ → Bool
+  actives l = ltb l active
 
   abbrev pub made : Call
   made =
@@ -166,48 +213,12 @@ module _ (settings : BlockSettings) (range : Range) (active coefs numbers : ℕ)
         numbers = numbers;
         lent = lent;
         before = before;
-        after = madeAfter;
+        after = sharedAfter settings range lent before madeNumber actives;
         answer = record { number = madeNumber; frames = cond (eqb madeNumber 0) (range .count) 0 };
       }
 
-  module _ (ok : madeNumber ≡ 0) where
-    made-accepted : madeAfter ≡ laidOut (settings .shaper .lanes) madeColumns (writeLengths before)
-    unfolding madeAfter
-    made-accepted = rw (eq-eqb madeNumber 0 ok)
-
-    taken : Taken settings range active lent before
-    taken = accepted settings range active coefs numbers lent before ok
-
-    column-on : (l : ℕ) → l < active → madeColumns l ≡ shared l
-    column-on l h = rw (lt-ltb l active h)
-
-    column-off : (l : ℕ) → active ≤ l → madeColumns l ≡ entered l
-    column-off l h = rw (le-ltb l active h)
-
-    made-left : (l : ℕ) → Left (settings .shaper) range (entered l) (madeColumns l)
-    made-left l = go (decLt l active)
-      where
-        go : Dec (l < active) → Left (settings .shaper) range (entered l) (madeColumns l)
-        go (yes h) =
-            rw (column-on l h)
-            (share-left settings range _ _ (good (taken .limits)) (taken .limits .range))
-        go (no h) = rw (column-off l (omega arith)) (all-left _ _ _)
-
-    made-columns : (l : ℕ) → l < settings .shaper .lanes → columnsOf (settings .shaper .lanes) madeAfter l ≡ madeColumns l
-    made-columns l h =
-        ap (λ (b : Buffers). columnsOf (settings .shaper .lanes) b l) made-accepted
-        ∙ columns-laid (settings .shaper) range before (taken .writable) madeColumns l h (made-left l)
-
-  made-refused : (madeNumber ≡ 0 → ⊥) → madeAfter ≡ before
-  unfolding madeAfter
-  made-refused bad = rw (ne-eqb madeNumber 0 bad)
-
-  pub made-sizes : writeLengths madeAfter ≡ writeLengths before
-  made-sizes = go (ℕ-discrete madeNumber 0)
-    where
-      go : Dec (madeNumber ≡ 0) → writeLengths madeAfter ≡ writeLengths before
-      go (yes ok) = ap writeLengths (made-accepted ok) ∙ sizes-laid (settings .shaper .lanes) madeColumns (writeLengths before)
-      go (no bad) = ap writeLengths (made-refused bad)
+  pub made-sizes : writeLengths (made .after) ≡ writeLengths before
+  made-sizes = shared-sizes settings range lent before madeNumber actives
 
   pub met-by : Meets made
   unfolding refusalOf
@@ -215,11 +226,12 @@ module _ (settings : BlockSettings) (range : Range) (active coefs numbers : ℕ)
       record {
         number = refl;
         frames = refl;
-        refused = made-refused;
-        lanes = λ ok. record {
-          inside = λ l h lo on. made-columns ok l h ∙ column-on ok l on;
-          outside = λ l h off. made-columns ok l h ∙ column-off ok l (least l off);
-        };
+        refused = shared-refused settings range lent before madeNumber actives;
+        lanes = λ ok. let taken = accepted settings range active coefs numbers lent before ok in
+            record {
+              inside = λ l h lo on. shared-on settings range lent before madeNumber actives ok taken l h (lt-ltb l active on);
+              outside = λ l h off. shared-off settings range lent before madeNumber actives ok taken l h (le-ltb l active (least l off));
+            };
         sizes = made-sizes;
       }
     where

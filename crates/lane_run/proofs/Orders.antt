@@ -30,7 +30,7 @@ use Rattle.lane_run.proofs.LaneLaws.{number-active, accepted-run}
 -- ---- other lanes' cells
 
 -- a lane's column of a buffer, by its columns of all six
-column-same : (n l : ℕ) (x y : Buffers) → columnsOf n x l ≡ columnsOf n y l → (b : Which) → col nan n l (buffer b x) ≡ col nan n l (buffer b y)
+pub column-same : (n l : ℕ) (x y : Buffers) → columnsOf n x l ≡ columnsOf n y l → (b : Which) → col nan n l (buffer b x) ≡ col nan n l (buffer b y)
 unfolding columnsOf
 column-same n l x y e Which.output = ap (λ (v : Columns). v .output) e
 column-same n l x y e Which.work = ap (λ (v : Columns). v .work) e

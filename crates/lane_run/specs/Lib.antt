@@ -1,3 +1,5 @@
--- The definitions that contracts cite (LaneCall), and what is proved of lanes' calls beside the run (Orders).
+-- The definitions that contracts cite (LaneCall), and what is proved of lanes' calls: beside the run (Orders), and in demand 3's Run B
+-- (LaneCuts). Their laws are in proofs/.
 pub mod LaneCall
 pub mod Orders
+pub mod LaneCuts

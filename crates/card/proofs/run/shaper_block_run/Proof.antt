@@ -102,8 +102,7 @@ run-lanes-requires : tie.Need-run-lanes-requires
 run-lanes-requires c κs =
     let s = lends c in
     let e = tested s in
-    let o = entry (e .before) in
-    (
+    let o = entry (e .before) in (
       omega arith,
       rw (s .settings-of .ensures)
           (accepted (settings o) (range o) (o .args .active) (length (o .args .coefs .now)) (length (o .args .numbers .now)) (reads o) (writes o) (none e)),
