@@ -2,8 +2,8 @@
  *
  *   cc -std=c11 -Iinclude examples/panel.c target/staticlib/libcard.a -lm -o panel
  *   ./panel Sync 40 0 LowPass 75 0.9 > picture.svg */
+#include "slot.h"
 #include "svg.h"
-#include "words.h"
 
 static const char usage[] =
     "usage: panel MODE0 AMOUNT0 CHARACTER0 MODE1 AMOUNT1 CHARACTER1 [CYCLE [CURVE]] > picture.svg\n"
@@ -13,12 +13,6 @@ static const char usage[] =
 
 /* In pixels: a point is one wide. */
 enum { POINTS = 512, HALF = 140, LEFT = 56, HEAD = 72, WIDTH = LEFT + POINTS + 24, HEIGHT = HEAD + 2 * HALF + 36 };
-
-/* A slot as its knobs stand. */
-struct slot {
-    uint32_t mode;
-    float amount, character;
-};
 
 static float curve[SHAPER_CURVE], cycle[SHAPER_CYCLE];
 
@@ -30,26 +24,13 @@ static _Noreturn void stop(const char *word)
     exit(2);
 }
 
-static uint32_t mode_of(const char *word)
-{
-    uint32_t mode;
-    if (!take_mode(word, &mode))
-        stop(word);
-    return mode;
-}
-
-static float number_of(const char *word, float most)
-{
-    char *end;
-    const float number = strtof(word, &end);
-    if (end == word || *end != '\0' || !(number >= 0.0f && number <= most))
-        stop(word);
-    return number;
-}
-
 static struct slot slot_of(char **words)
 {
-    return (struct slot){mode_of(words[0]), number_of(words[1], 100.0f), number_of(words[2], 1.0f)};
+    struct slot slot;
+    const char *wrong = take_slot(words, &slot);
+    if (wrong != NULL)
+        stop(wrong);
+    return slot;
 }
 
 /* The first numbers of a file, if one is named. */

@@ -1,4 +1,4 @@
-/* Words of a command line, for panel.c and patch.c. */
+/* Words of a command line, for panel.c, patch.c and trace.c. */
 #ifndef WORDS_H
 #define WORDS_H
 
@@ -7,15 +7,19 @@
 #include <stdlib.h>
 #include <string.h>
 
+/* A whole number; one that is too large is the largest. Whether the word is one. */
+static int take_whole(const char *word, uint32_t *number)
+{
+    const unsigned long value = strtoul(word, NULL, 10);
+    *number = value < UINT32_MAX ? (uint32_t)value : UINT32_MAX;
+    return *word != '\0' && word[strspn(word, "0123456789")] == '\0';
+}
+
 /* A mode by its name or a whole number; which numbers are modes, the library says. Whether the word is either. */
 static int take_mode(const char *word, uint32_t *mode)
 {
     *mode = shaper_mode_of(word);
-    if (*mode < SHAPER_MODES)
-        return 1;
-    const unsigned long number = strtoul(word, NULL, 10);
-    *mode = number < UINT32_MAX ? (uint32_t)number : UINT32_MAX;
-    return *word != '\0' && word[strspn(word, "0123456789")] == '\0';
+    return *mode < SHAPER_MODES || take_whole(word, mode);
 }
 
 #endif

@@ -245,23 +245,26 @@ struct shaper_answer shaper_block_run(
     float *pairs, size_t pairs_length, float *fm, size_t fm_length, float *last, size_t last_length, float *state,
     size_t state_length);
 
-/* One lane's whole share of shaper_block_run: its rendered frames, their decimation, the copy to the range's output rows,
- * and its state. For who traces a lane in one stretch, or spreads a range over time lane by lane.
+/* One lane's whole share of a range: its rendered frames, their decimation, the copy to the range's output rows, and
+ * its state. For tracing a lane in one stretch, with the other lanes run before or after it.
  *
- *   lane         the lane, below active
- *   all others   as in shaper_block_run, of the same lengths: those of all lanes, though one is touched
+ *   lane        the lane, below active
+ *   all others  as in shaper_block_run and of its lengths, those of all lanes
  *
- * It writes the lane's cells of the six written buffers, and no cell of another lane in any row. Turned down as
- * shaper_block_run is, by the same lines in the same order, and by SHAPER_BAD_LANES also where `lane` is not below
- * `active`: with no lane active it always is. Called once for each active lane, in any order and with the same arguments,
- * it leaves all six buffers as one shaper_block_run does, work too, NaN counting as one value; and where that is turned
- * down, so is each of these calls, with the same number. For its lane a call counts as a run of its range: a block may be
- * made in consecutive ranges by both kinds of calls, and one lane may be taken through several ranges before the next
- * starts. An empty range is accepted and changes nothing. Two calls at once on the same buffers are two writers of them,
- * also for different lanes: the rule above forbids it. Answers the range's frames.
+ * It writes the lane's cells of the six buffers that a run writes, and touches no cell of another lane. It is turned
+ * down as shaper_block_run is, by the same lines in the same order, and by SHAPER_BAD_LANES also where `lane` is not
+ * below `active`: with no active lane every call is turned down. An empty range is accepted and changes nothing. Answers
+ * the range's frames.
  *
- * After the call the first `count` rows of the lane's column of `work` are its output. At factor 1 they are the rendered
- * samples as well; above it the decimation in place has overwritten these, and no buffer keeps them. */
+ * Called with the same arguments once for each active lane, in any order, it leaves all six buffers as one
+ * shaper_block_run does, NaN counting as one value; and where that is turned down, so is each of these calls, with the
+ * same number. To its lane a call is as good as a run of the range: a block may be made in consecutive ranges by calls
+ * of both kinds, and a lane may go through several ranges before the next one starts. Two calls at the same time on the
+ * same buffers are two writers of them, even for different lanes: what is said above of writers forbids it.
+ *
+ * After an accepted call the lane's first `count` rows of `work` are its output rows of the range. At factor 1 these
+ * are its rendered samples too; above that the decimation, which is done in place, has overwritten those, and nothing
+ * keeps them. */
 struct shaper_answer shaper_lane_run(
     uint32_t mode0, uint32_t mode1, float character0, float character1, uint32_t factor, uint32_t lanes,
     uint32_t active, uint32_t lane, uint32_t frames, uint32_t first, uint32_t count, uint32_t rate, uint32_t count0,

@@ -135,18 +135,21 @@ static inline struct shaper_valued shaper_stretch_block(const struct shaper_bloc
         SHAPER_LENT(b->stretch), SHAPER_LENT(b->add));
 }
 
+/* What both runs take after their range: rate, the card's designs and numbers, and the block's buffers. */
+#define SHAPER_AFTER_RANGE(b) \
+    (b)->rate, shaper_card_counts[0], shaper_card_counts[1], shaper_card_counts[2], shaper_card_coefs, SHAPER_COEFS, \
+    shaper_numbers, SHAPER_NUMBERS, SHAPER_LENT((b)->slot[0].base), SHAPER_LENT((b)->slot[1].base), \
+    SHAPER_LENT((b)->slot[0].mod), SHAPER_LENT((b)->slot[1].mod), SHAPER_LENT((b)->slot[0].source), \
+    SHAPER_LENT((b)->slot[1].source), SHAPER_LENT((b)->curve), SHAPER_LENT((b)->cycle), SHAPER_LENT((b)->words), \
+    SHAPER_LENT((b)->steps), SHAPER_LENT((b)->inner), SHAPER_LENT((b)->output), SHAPER_LENT((b)->work), \
+    SHAPER_LENT((b)->pairs), SHAPER_LENT((b)->fm), SHAPER_LENT((b)->last), SHAPER_LENT((b)->state)
+
 /* shaper_block_run of host frames first to first + count - 1. A block in any consecutive ranges has the same samples as
  * in one, `0, frames`. */
 static inline struct shaper_answer shaper_run_block(const struct shaper_block *b, uint32_t first, uint32_t count)
 {
-    const struct shaper_slot *s = b->slot;
-    return shaper_block_run(s[0].mode, s[1].mode, s[0].character, s[1].character, b->factor, b->lanes, b->active,
-        b->frames, first, count, b->rate, shaper_card_counts[0], shaper_card_counts[1], shaper_card_counts[2],
-        shaper_card_coefs, SHAPER_COEFS, shaper_numbers, SHAPER_NUMBERS, SHAPER_LENT(s[0].base), SHAPER_LENT(s[1].base),
-        SHAPER_LENT(s[0].mod), SHAPER_LENT(s[1].mod), SHAPER_LENT(s[0].source), SHAPER_LENT(s[1].source),
-        SHAPER_LENT(b->curve), SHAPER_LENT(b->cycle), SHAPER_LENT(b->words), SHAPER_LENT(b->steps),
-        SHAPER_LENT(b->inner), SHAPER_LENT(b->output), SHAPER_LENT(b->work), SHAPER_LENT(b->pairs), SHAPER_LENT(b->fm),
-        SHAPER_LENT(b->last), SHAPER_LENT(b->state));
+    return shaper_block_run(b->slot[0].mode, b->slot[1].mode, b->slot[0].character, b->slot[1].character, b->factor,
+        b->lanes, b->active, b->frames, first, count, SHAPER_AFTER_RANGE(b));
 }
 
 /* shaper_lane_run of the same: one lane's share of the range. Once for each active lane, in any order, it leaves all
@@ -154,16 +157,11 @@ static inline struct shaper_answer shaper_run_block(const struct shaper_block *b
 static inline struct shaper_answer shaper_run_lane(const struct shaper_block *b, uint32_t lane, uint32_t first,
     uint32_t count)
 {
-    const struct shaper_slot *s = b->slot;
-    return shaper_lane_run(s[0].mode, s[1].mode, s[0].character, s[1].character, b->factor, b->lanes, b->active, lane,
-        b->frames, first, count, b->rate, shaper_card_counts[0], shaper_card_counts[1], shaper_card_counts[2],
-        shaper_card_coefs, SHAPER_COEFS, shaper_numbers, SHAPER_NUMBERS, SHAPER_LENT(s[0].base), SHAPER_LENT(s[1].base),
-        SHAPER_LENT(s[0].mod), SHAPER_LENT(s[1].mod), SHAPER_LENT(s[0].source), SHAPER_LENT(s[1].source),
-        SHAPER_LENT(b->curve), SHAPER_LENT(b->cycle), SHAPER_LENT(b->words), SHAPER_LENT(b->steps),
-        SHAPER_LENT(b->inner), SHAPER_LENT(b->output), SHAPER_LENT(b->work), SHAPER_LENT(b->pairs), SHAPER_LENT(b->fm),
-        SHAPER_LENT(b->last), SHAPER_LENT(b->state));
+    return shaper_lane_run(b->slot[0].mode, b->slot[1].mode, b->slot[0].character, b->slot[1].character, b->factor,
+        b->lanes, b->active, lane, b->frames, first, count, SHAPER_AFTER_RANGE(b));
 }
 
+#undef SHAPER_AFTER_RANGE
 #undef SHAPER_LENT
 
 #ifdef __cplusplus

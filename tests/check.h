@@ -8,6 +8,8 @@
 #include <stdio.h>
 #include <string.h>
 
+#define COUNT_OF(array) (sizeof(array) / sizeof *(array))
+
 static unsigned passed, total;
 
 static void check(int right, const char *what)

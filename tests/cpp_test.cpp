@@ -36,6 +36,23 @@ static shaper_block filled()
     return b;
 }
 
+/* Lane by lane, the last one first and lane 0 in two ranges: what the run left. */
+static void check_lanes(const shaper_block &b)
+{
+    static float output_before[SHAPER_OUTPUT(FRAMES, LANES)], state_before[SHAPER_STATE(LANES)];
+    memcpy(output_before, output, sizeof output);
+    memcpy(state_before, state, sizeof state);
+    memset(output, 0, sizeof output);
+    memset(state, 0, sizeof state);
+    check(answered(shaper_run_lane(&b, 1, 0, FRAMES), SHAPER_ACCEPTED, FRAMES)
+            && answered(shaper_run_lane(&b, 0, 0, 7), SHAPER_ACCEPTED, 7)
+            && answered(shaper_run_lane(&b, 0, 7, FRAMES - 7), SHAPER_ACCEPTED, FRAMES - 7),
+        "the answers of lanes");
+    check(answered(shaper_run_lane(&b, LANES, 0, FRAMES), SHAPER_BAD_LANES, 0), "a lane that is not active");
+    check(memcmp(output, output_before, sizeof output) == 0 && memcmp(state, state_before, sizeof state) == 0,
+        "a block lane by lane");
+}
+
 static shaper_answer preview(uint32_t mode, size_t cycle_length, float *picture, size_t points)
 {
     return shaper_preview(mode, SHAPER_OFF, 0.0f, 0.0f, 0.0f, 0.0f, shaper_numbers, SHAPER_NUMBERS, curve, SHAPER_CURVE,
@@ -97,6 +114,7 @@ int main()
               SHAPER_ACCEPTED, FRAMES),
         "the answer of a decimation");
     check(memcmp(output, buffer, sizeof output) == 0, "the decimated cycle");
+    check_lanes(b);
     check(answered(shaper_run_block(&b, 1, FRAMES), SHAPER_BAD_FRAMES, 0), "a range past the end");
     const shaper_needs p = shaper_plan_block(&b);
     check(p.number == SHAPER_ACCEPTED && p.frames == FRAMES && p.work == SHAPER_WORK(FRAMES, FACTOR, LANES)

@@ -9,8 +9,6 @@
 #include <stdlib.h>
 #include <sys/mman.h>
 
-#define COUNT_OF(array) (sizeof(array) / sizeof *(array))
-
 enum { RATE = 48000, ENTRY = 1 << 21, HALF = ENTRY / 2, LAST_PART = ENTRY - 1, LAST = SHAPER_CYCLE - 1 };
 
 /* How a word is read: by the one lane of a block at factor 1, whose output is then the sum of its reads, or by the one

@@ -40,8 +40,6 @@ static struct shaper_needs refused(uint32_t number)
 
 static const uint32_t factors[] = {1, 2, 4, SHAPER_MAX_FACTOR};
 
-#define COUNT_OF(array) (sizeof(array) / sizeof *(array))
-
 /* By hand: 21,504 = 8 * 64 * (10 + 2 * 6 + 4 * 5). */
 static void check_values(void)
 {

@@ -6,8 +6,6 @@
 #include <stdlib.h>
 #include <sys/mman.h>
 
-#define COUNT_OF(array) (sizeof(array) / sizeof *(array))
-
 enum { GUARD = 8, CELLS = GUARD + SHAPER_POINTS + 1 + GUARD };
 
 /* What most pictures are made of; `plain` is the remap curve that changes nothing. */

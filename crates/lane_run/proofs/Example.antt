@@ -94,7 +94,7 @@ asked mode0 factor active frames =
     }
 
 abbrev number : ℕ → CallNumbers → ℕ
-number lane call = laneRefusal call lane (readLengths 36 13 lent) (writeLengths before)
+number lane call = laneRefusal lane call (readLengths 36 13 lent) (writeLengths before)
 
 pub active-lane : number 1 (asked 1 4 2 6) ≡ 0
 unfolding lent before laneRefusal firstOf spansOf

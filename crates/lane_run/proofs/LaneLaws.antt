@@ -58,12 +58,12 @@ by-number false false false false false false false false = refl
 
 module _ (call : CallNumbers) (lane : ℕ) (reads : ReadLengths) (writes : WriteLengths) where
   -- an active lane's call has the run's number
-  pub active-number : lane < call .active → laneRefusal call lane reads writes ≡ blockRefusal call reads writes
+  pub active-number : lane < call .active → laneRefusal lane call reads writes ≡ blockRefusal call reads writes
   unfolding laneRefusal blockRefusal
   active-number h = rw (lt-ltb lane (call .active) h, or-none (badLanes (call .lanes) (call .active)))
 
   idle-lines : call .active ≤ lane
-      → laneRefusal call lane reads writes ≡ cond (badModes (call .mode0) (call .mode1)) 1 (cond (badFactor (call .factor)) 2 3)
+      → laneRefusal lane call reads writes ≡ cond (badModes (call .mode0) (call .mode1)) 1 (cond (badFactor (call .factor)) 2 3)
   unfolding laneRefusal
   idle-lines h =
       rw (le-ltb lane (call .active) h, or-all (badLanes (call .lanes) (call .active)))
@@ -72,7 +72,7 @@ module _ (call : CallNumbers) (lane : ℕ) (reads : ReadLengths) (writes : Write
 
   -- another one's is 3, but for the lines before it
   pub idle-number : call .active ≤ lane
-      → laneRefusal call lane reads writes
+      → laneRefusal lane call reads writes
       ≡ cond (eqb (blockRefusal call reads writes) 1) 1 (cond (eqb (blockRefusal call reads writes) 2) 2 3)
   unfolding blockRefusal
   idle-number h =
@@ -82,7 +82,7 @@ module _ (call : CallNumbers) (lane : ℕ) (reads : ReadLengths) (writes : Write
       (readsShort call reads) (writesShort call writes)
 
   -- so an accepted call's lane is active
-  pub lane-active : laneRefusal call lane reads writes ≡ 0 → lane < call .active
+  pub lane-active : laneRefusal lane call reads writes ≡ 0 → lane < call .active
   lane-active e = go (decLt lane (call .active))
     where
       some : (a b : Bool) → _≡_ {A = ℕ} (cond a 1 (cond b 2 3)) 0 → ⊥
@@ -95,7 +95,7 @@ module _ (call : CallNumbers) (lane : ℕ) (reads : ReadLengths) (writes : Write
       go (no h) = absurd (some (badModes (call .mode0) (call .mode1)) (badFactor (call .factor)) (sym (idle-lines (omega arith)) ∙ e))
 
   -- and the run with its arguments is accepted
-  pub lane-passed : laneRefusal call lane reads writes ≡ 0 → blockRefusal call reads writes ≡ 0
+  pub lane-passed : laneRefusal lane call reads writes ≡ 0 → blockRefusal call reads writes ≡ 0
   lane-passed e = sym (active-number (lane-active e)) ∙ e
 
 -- of a call
@@ -116,7 +116,7 @@ module _ (c : Call) (lane : ℕ) where
 
 module _ (b : BlockSettings) (r : Range) (active lane coefs numbers : ℕ) (l : Lent) (w : Buffers) where
   abbrev number : ℕ
-  number = laneRefusal (callNumbers b r active) lane (readLengths coefs numbers l) (writeLengths w)
+  number = laneRefusal lane (callNumbers b r active) (readLengths coefs numbers l) (writeLengths w)
 
   -- what its share asks for: the lanes up to its own are there
   pub lane-taken : number ≡ 0 → Taken b r (lane + 1) l w

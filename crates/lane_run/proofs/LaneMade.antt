@@ -30,7 +30,7 @@ use Rattle.lane_run.proofs.Orders.{in-any-order}
 -- a call for a lane with the arguments of run c, in the buffers w
 module _ (c : Call) (lane : ℕ) (w : Buffers) where
   abbrev number : ℕ
-  number = laneRefusal (callNumbers (c .settings) (c .range) (c .active)) lane (readLengths (c .coefs) (c .numbers) (c .lent)) (writeLengths w)
+  number = laneRefusal lane (callNumbers (c .settings) (c .range) (c .active)) (readLengths (c .coefs) (c .numbers) (c .lent)) (writeLengths w)
 
   abbrev only : ℕ → Bool
   only l = eqb l lane

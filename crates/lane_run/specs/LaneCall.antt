@@ -15,8 +15,8 @@ use Rattle.block.specs.Refusal.{readsShort, writesShort}
 use Rattle.block.specs.Call.{Call, callNumbers, readLengths, writeLengths, lanesOf, shareOf}
 
 -- the block run's lines; 3 is also a single lane that is not active
-unfoldable pub laneRefusal : CallNumbers → ℕ → ReadLengths → WriteLengths → ℕ
-laneRefusal call lane reads writes =
+unfoldable pub laneRefusal : ℕ → CallNumbers → ReadLengths → WriteLengths → ℕ
+laneRefusal lane call reads writes =
     firstOf
     ((badModes (call .mode0) (call .mode1), 1)
     ∷ (badFactor (call .factor), 2)
@@ -31,7 +31,7 @@ laneRefusal call lane reads writes =
 -- the number by the table
 unfoldable pub laneNumber : Call → ℕ → ℕ
 laneNumber c lane =
-    laneRefusal (callNumbers (c .settings) (c .range) (c .active)) lane (readLengths (c .coefs) (c .numbers) (c .lent)) (writeLengths (c .before))
+    laneRefusal lane (callNumbers (c .settings) (c .range) (c .active)) (readLengths (c .coefs) (c .numbers) (c .lent)) (writeLengths (c .before))
 
 -- a `Call` has the run's arguments. `share` is about every row of all six buffers and of every lane: this lane has its share of the
 -- range, and no cell of another is touched

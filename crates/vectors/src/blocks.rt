@@ -1,6 +1,8 @@
 // Runs of the block run: designs, a block's numbers and its buffers are remade from a seed, its spans
 // are prepared, and then its ranges are rendered one after another on the same buffers. At the most four
-// lanes and 40 host frames. Some calls are made to be turned down.
+// lanes and 40 host frames. Some calls are made to be turned down. `by_lanes` has each range made by lanes'
+// calls, which leave what the run leaves and answer what it answers.
+use crate::by_lanes::lanes_run;
 use crate::settings::block_of;
 use crate::settings::faulted;
 use answers::cells::Kind;
@@ -100,6 +102,7 @@ fn turn(
     i: Inputs,
     d: Draws,
     t: Done,
+    by_lanes: bool,
     curve: &[f32; 1025],
     controls: &[f32; 648],
     cycle: &[f32; 2048],
@@ -117,27 +120,58 @@ fn turn(
     let frames = b.shaper.frames;
     let lanes = b.shaper.lanes;
     let e = ends_of(b.shaper, fault);
-    let a = range_run(
-        faulted(b, fault),
-        i,
-        e,
-        range_of(frames, d.range, t.first, fault),
-        active_with(fault, lanes, active_of(d.sizes, lanes)),
-        curve,
-        controls,
-        cycle,
-        words,
-        steps,
-        inner,
-        output,
-        work,
-        pairs,
-        fm,
-        last,
-        state,
-        e.output % 161,
-        e.state % 289,
-    );
+    let active = active_with(fault, lanes, active_of(d.sizes, lanes));
+    let r = range_of(frames, d.range, t.first, fault);
+    let rows = e.output % 161;
+    let cells = e.state % 289;
+    let asked = faulted(b, fault);
+    let calls = if by_lanes { active } else { 0 };
+    let a = if calls > 0 {
+        lanes_run(
+            asked,
+            i,
+            e,
+            r,
+            active,
+            calls,
+            curve,
+            controls,
+            cycle,
+            words,
+            steps,
+            inner,
+            output,
+            work,
+            pairs,
+            fm,
+            last,
+            state,
+            rows,
+            cells,
+        )
+    } else {
+        range_run(
+            asked,
+            i,
+            e,
+            r,
+            active,
+            curve,
+            controls,
+            cycle,
+            words,
+            steps,
+            inner,
+            output,
+            work,
+            pairs,
+            fm,
+            last,
+            state,
+            rows,
+            cells,
+        )
+    };
     let h = folded(folded(t.hash, a.number), a.frames);
     Done {
         hash: folded_voices(h, output, work, pairs, fm, last, state),
@@ -154,6 +188,7 @@ fn ranges_hash(
     count: u32,
     s: u32,
     h: u64,
+    by_lanes: bool,
     curve: &[f32; 1025],
     controls: &[f32; 648],
     cycle: &[f32; 2048],
@@ -190,6 +225,7 @@ fn ranges_hash(
             i,
             d,
             t,
+            by_lanes,
             curve,
             controls,
             cycle,
@@ -207,7 +243,7 @@ fn ranges_hash(
     t.hash
 }
 
-pub fn block_hash(table: &[f32; 1025], run: ModesRun) -> u64 {
+pub fn block_hash(table: &[f32; 1025], run: ModesRun, by_lanes: bool) -> u64 {
     let seed = run.seed;
     let count = run.count % 0x1_0000;
     let counts = next(seed);
@@ -235,5 +271,17 @@ pub fn block_hash(table: &[f32; 1025], run: ModesRun) -> u64 {
         &mut stretch,
         &mut add,
     );
-    ranges_hash(b, i, seed, count, s, h, &curve, &controls, &cycle, &inner)
+    ranges_hash(
+        b,
+        i,
+        seed,
+        count,
+        s,
+        h,
+        by_lanes,
+        &curve,
+        &controls,
+        &cycle,
+        &inner,
+    )
 }

@@ -2,9 +2,10 @@
 // gives, and of document 01's boundary values and of known patch files how many are kept: "P of T" in all. The
 // lines are those of `leaf_vectors`, `phase_vectors`, `wave_vectors`, `decimate_vectors`, `single_vectors`,
 // `block_vectors`, `picture_vectors` and `file_vectors` of oracle/programs, which has their format; the last are a
-// model's.
+// model's. Runs of the block run are replayed twice, the second time by lanes' calls.
 mod blocks;
 mod boundaries;
+mod by_lanes;
 mod settings;
 mod text;
 
@@ -39,7 +40,7 @@ struct Tally {
 // Calls about one lane or about a block's spans, about a block's ranges, pictures, or patch files.
 fn called_hash(table: &[f32; 1025], op: u32, run: ModesRun) -> u64 {
     match op {
-        0x60 => block_hash(table, run),
+        0x60 => block_hash(table, run, false),
         0x61 => picture_hash(&curve_of(table, run.seed), run),
         0x62 => file_hash(run),
         _ => calls_hash(table, op, run),
@@ -64,7 +65,24 @@ fn hashed(powers: &[u32; 257], table: &[f32; 1025], op: u32, a: u32, b: u32) -> 
     }
 }
 
-// One line: an answer, or a run of random ones, which counts as many as it has and passes whole.
+// A run counts as many as it has and passes whole.
+fn whole(run: Hashed, hash: u64) -> Tally {
+    Tally {
+        passed: if run.hash == hash { run.count } else { 0 },
+        total: run.count,
+    }
+}
+
+// The runs of the block run once more, by lanes' calls: the hash is the same.
+fn replay_lanes(table: &[f32; 1025], run: ModesRun, hash: u64) -> Tally {
+    let by_lanes = Hashed {
+        count: run.count as u64,
+        hash: block_hash(table, run, true),
+    };
+    whole(by_lanes, hash)
+}
+
+// One line: an answer, or a run of random ones.
 fn replay(powers: &[u32; 257], table: &[f32; 1025], line: &[u8; 39]) -> Tally
     requires { ⌜ now powers ≡ entries ⌝ }
 {
@@ -80,11 +98,12 @@ fn replay(powers: &[u32; 257], table: &[f32; 1025], line: &[u8; 39]) -> Tally
             total: 1,
         }
     } else {
-        let run = hashed(powers, table, op - 0x80, a, b);
-        let right = run.hash == ((c as u64) << 32) + (e as u64);
-        Tally {
-            passed: if right { run.count } else { 0 },
-            total: run.count,
+        let hash = ((c as u64) << 32) + (e as u64);
+        let run = whole(hashed(powers, table, op - 0x80, a, b), hash);
+        if op == 0xe0 {
+            added(run, replay_lanes(table, modes_run(a, b), hash))
+        } else {
+            run
         }
     }
 }

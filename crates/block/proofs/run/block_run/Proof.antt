@@ -7,7 +7,7 @@ use Rattle.render.specs.Lane.{Lent}
 use Rattle.share.specs.Share.{Buffers, buffers}
 use Rattle.render.specs.Promises.{lent}
 use Rattle.block.specs.Refusal.{blockRefusal}
-use Rattle.block.specs.Call.{callNumbers, readLengths, writeLengths}
+use Rattle.block.specs.Call.{callNumbers, readLengths, writeLengths, Taken}
 use Rattle.block.proofs.RefusalLaws.{by-parts, accepted}
 use Rattle.block.proofs.CallLaws.{meets-refused, meets-shared}
 use Rattle.block.proofs.run.block_run.Statement.{statement}
@@ -71,11 +71,13 @@ returns c =
 
 -- ---- the run
 
+taken : (c : tie.Else1) → let o = entry (c .before) in Taken (o .args .b) (o .args .r) (o .args .active) (reads o) (writes o)
+taken c =
+    let o = entry (c .before) in
+    accepted (o .args .b) (o .args .r) (o .args .active) 36 13 (reads o) (writes o) (none c)
+
 run-lanes-requires : tie.Need-run-lanes-requires
-run-lanes-requires c κs =
-    let e = tested c in
-    let o = entry (e .before) in
-    (omega arith, accepted (o .args .b) (o .args .r) (o .args .active) 36 13 (reads o) (writes o) (none e))
+run-lanes-requires c κs = (omega arith, taken (tested c))
 
 returns-2 : tie.Need-returns-2
 returns-2 c =

@@ -73,14 +73,14 @@ abbrev lengths : tie.Start → ReadLengths
 lengths c = readLengths (length (c .args .coefs .now)) (length (c .args .numbers .now)) (reads c)
 
 abbrev number : tie.Start → ℕ
-number c = laneRefusal (numbers c) (c .args .lane) (lengths c) (writeLengths (writes c))
+number c = laneRefusal (c .args .lane) (numbers c) (lengths c) (writeLengths (writes c))
 
 -- the settings have the numbers that came one by one
 by-table : (c : tie.After-refused-lane) → c .refused-lane .result ≡ number (entry c)
 unfolding settingsOf designsOf
 by-table c =
     let w = gathered c in
-    by-parts (λ (call : CallNumbers). laneRefusal call (entry c .args .lane)) refl (measured w .read-lengths .ensures) (w .write-lengths .ensures) (c .refused-lane .ensures)
+    by-parts (laneRefusal (entry c .args .lane)) refl (measured w .read-lengths .ensures) (w .write-lengths .ensures) (c .refused-lane .ensures)
 
 none : (c : tie.Else1) → number (entry (c .before)) ≡ 0
 none c = sym (by-table (c .before)) ∙ c .if1 .left

@@ -13,7 +13,7 @@ use Rattle.render.specs.Promises.{lent}
 use Rattle.block.specs.declared.refusal.CallNumbers.{CallNumbers}
 use Rattle.block.specs.declared.refusal.ReadLengths.{ReadLengths}
 use Rattle.block.specs.Refusal.{blockRefusal}
-use Rattle.block.specs.Call.{callNumbers, readLengths, writeLengths}
+use Rattle.block.specs.Call.{callNumbers, readLengths, writeLengths, Taken}
 use Rattle.block.specs.Numbers.{settingsOf, rangeOf}
 use Rattle.block.proofs.RefusalLaws.{passed, by-parts, whole-slices, accepted}
 use Rattle.block.proofs.SharedLaws.{shared-by}
@@ -98,15 +98,13 @@ settings-of-requires c κs =
     let o = entry (c .before) in
     whole-slices (numbers o) (lengths o) (passed (numbers o) (lengths o) _ (none c) .read)
 
+taken : (c : tie.Else1) → let o = entry (c .before) in Taken (settings o) (range o) (o .args .active) (reads o) (writes o)
+taken c =
+    let o = entry (c .before) in
+    accepted (settings o) (range o) (o .args .active) (length (o .args .coefs .now)) (length (o .args .numbers .now)) (reads o) (writes o) (none c)
+
 run-lanes-requires : tie.Need-run-lanes-requires
-run-lanes-requires c κs =
-    let s = lends c in
-    let e = tested s in
-    let o = entry (e .before) in (
-      omega arith,
-      rw (s .settings-of .ensures)
-          (accepted (settings o) (range o) (o .args .active) (length (o .args .coefs .now)) (length (o .args .numbers .now)) (reads o) (writes o) (none e)),
-    )
+run-lanes-requires c κs = let s = lends c in (omega arith, rw (s .settings-of .ensures) (taken (tested s)))
 
 returns-2 : tie.Need-returns-2
 returns-2 c =

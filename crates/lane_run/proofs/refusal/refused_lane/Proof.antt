@@ -16,7 +16,7 @@ returns c = c .before .refused .ensures ∙ sym (active-number _ _ _ _ (c .if1 .
 -- by the run's number, for a lane that is not active
 idle : (c : tie.Else1)
     → let a = c .before .before .args in let n = c .before .refused .result in
-    laneRefusal (a .call) (a .lane) (a .reads) (a .writes) ≡ cond (eqb n 1) 1 (cond (eqb n 2) 2 3)
+    laneRefusal (a .lane) (a .call) (a .reads) (a .writes) ≡ cond (eqb n 1) 1 (cond (eqb n 2) 2 3)
 idle c =
     let a = c .before .before .args in
     idle-number (a .call) (a .lane) (a .reads) (a .writes) (omega (arith, c .if1 .left)) ∙ rw (c .before .refused .ensures)

@@ -6,7 +6,6 @@ use borrow.Author.Needs.{needs}
 use Rattle.render.specs.Lane.{Lent}
 use Rattle.share.specs.Share.{Buffers, buffers}
 use Rattle.render.specs.Promises.{lent}
-use Rattle.block.specs.declared.refusal.CallNumbers.{CallNumbers}
 use Rattle.block.specs.Call.{callNumbers, readLengths, writeLengths, Taken}
 use Rattle.block.proofs.RefusalLaws.{by-parts}
 use Rattle.lane_run.specs.LaneCall.{laneRefusal}
@@ -54,13 +53,13 @@ writes c = let a = c .args in buffers (a .output .now) (a .work .now) (a .pairs 
 abbrev number : tie.Start → ℕ
 number c =
     let a = c .args in
-    laneRefusal (callNumbers (a .b) (a .r) (a .active)) (a .lane) (readLengths 36 13 (reads c)) (writeLengths (writes c))
+    laneRefusal (a .lane) (callNumbers (a .b) (a .r) (a .active)) (readLengths 36 13 (reads c)) (writeLengths (writes c))
 
 by-table : (c : tie.After-refused-lane) → c .refused-lane .result ≡ number (entry c)
 by-table c =
     let w = gathered c in
     let r = measured w in
-    by-parts (λ (call : CallNumbers). laneRefusal call (entry c .args .lane)) (numbered r .call-numbers .ensures) (r .read-lengths .ensures) (w .write-lengths .ensures) (c .refused-lane .ensures)
+    by-parts (laneRefusal (entry c .args .lane)) (numbered r .call-numbers .ensures) (r .read-lengths .ensures) (w .write-lengths .ensures) (c .refused-lane .ensures)
 
 none : (c : tie.Else1) → number (entry (c .before)) ≡ 0
 none c = sym (by-table (c .before)) ∙ c .if1 .left

@@ -5,11 +5,11 @@ use Rattle.vectors.proofs.blocks.ranges_hash.Statement.{statement}
 use Rattle.vectors.proofs.blocks.ranges_hash.Tie as tie
 
 abbrev Inv-loop : tie.InvT-loop
-Inv-loop b i seed count s h curve controls cycle inner output₀ work₀ pairs₀ fm₀ last₀ state₀ steps words s₀ t₀ counter₀ output work pairs fm last state s' t counter =
+Inv-loop b i seed count s h byLanes curve controls cycle inner output₀ work₀ pairs₀ fm₀ last₀ state₀ steps words s₀ t₀ counter₀ output work pairs fm last state s' t counter =
     (counter ≤ count) × (count ≤ 65535)
 
 abbrev μ-loop : tie.MeasureT-loop
-μ-loop b i seed count s h curve controls cycle inner output₀ work₀ pairs₀ fm₀ last₀ state₀ steps words s₀ t₀ counter₀ output work pairs fm last state s' t counter =
+μ-loop b i seed count s h byLanes curve controls cycle inner output₀ work₀ pairs₀ fm₀ last₀ state₀ steps words s₀ t₀ counter₀ output work pairs fm last state s' t counter =
     count - counter
 
 draw-voices-requires : tie.Need-draw-voices-requires Inv-loop μ-loop
