@@ -253,8 +253,8 @@ struct shaper_answer shaper_block_run(
  *
  * It writes the lane's cells of the six buffers that a run writes, and touches no cell of another lane. It is turned
  * down as shaper_block_run is, by the same lines in the same order, and by SHAPER_BAD_LANES also where `lane` is not
- * below `active`: with no active lane every call is turned down. An empty range is accepted and changes nothing. Answers
- * the range's frames.
+ * below `active`: with no active lane every call is turned down. An empty range is accepted and changes nothing.
+ * Answers the range's frames.
  *
  * Called with the same arguments once for each active lane, in any order, it leaves all six buffers as one
  * shaper_block_run does, NaN counting as one value; and where that is turned down, so is each of these calls, with the

@@ -22,6 +22,7 @@ pub fn ported(kind: Kind, call: &Call, mut lent: Slices<'_>) -> Vec<u64> {
         Kind::Prepare => plain(card::prepare(call, lent)),
         Kind::Stretch => valued(card::stretch(call, lent)),
         Kind::Run => plain(card::block_run(call, &mut lent)),
+        Kind::LaneRun => plain(card::lane_run(call, &mut lent)),
     }
 }
 
@@ -33,7 +34,7 @@ fn is_left(kind: Kind, buffer: Buffer, call: &Call, at: usize) -> bool {
         Kind::Prepare | Kind::Run => lane >= call.active,
         _ => lane != call.lane,
     };
-    let is_outside = kind == Kind::Run
+    let is_outside = kind.is_run()
         && (call.count == 0 || buffer == Buffer::Output && !(call.first..call.first + call.count).contains(&row));
     at as u128 >= buffer.asked(call) || !kind.changed().contains(&buffer) || is_others || is_outside
 }
@@ -65,12 +66,18 @@ impl Lending {
             Some(&cell) => cell,
             None => floats.cell(buffer, g),
         });
-        if kind == Kind::Run {
+        if kind.is_run() {
             cells.words = rows(g, asked(Buffer::Words), call.lanes as usize, floats.is_wild());
             cycle::to_entries(&mut cells.words[0], g);
         }
         let lengths = Buffer::ALL.map(|buffer| if is_lent(buffer) { asked(buffer) } else { 0 });
         Self { kind, cells, lengths }
+    }
+
+    /// Lends a run the work of its range, and as many cells more as of the coefficients.
+    pub fn fit_work(&mut self, call: &Call) {
+        let more = self.lengths[Buffer::Coefs as usize] - Buffer::Coefs.asked(call) as usize;
+        self.lengths[Buffer::Work as usize] = Buffer::Work.asked(call) as usize + more;
     }
 
     /// The lent cells of a buffer and its guard cells.
@@ -108,7 +115,7 @@ impl Lending {
         }
     }
 
-    /// One block run of the library alone: its number and frames by the table, and the cells that it leaves.
+    /// One run of the library alone: its number and frames by the table, and the cells that it leaves.
     pub fn alone(&mut self, call: &Call, tally: &mut Tally) {
         let kind = self.kind;
         let before = self.parts(kind.changed());

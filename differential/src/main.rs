@@ -26,10 +26,11 @@ const USAGE: &str = "usage: differential quick
        differential long MINUTES [SEED]
        differential COMPARISON COUNT [SEED]
          leaves, cycle, phases, waves, decimate, singles, blocks, plans, pictures, files or largest
-       differential speed [leaves | lists | shapes | decimations | pictures | files | pairs | modes | ranges] [rows]
+       differential speed [leaves | lists | shapes | decimations | pictures | files | pairs | modes | ranges | lanes]
+                          [rows]
          all of it, or one table: leaves of lanes.rs, sums of read lists, slots of the wave stage, decimations,
          pictures, patch files; block runs of pairs of modes, of each mode alone, and of the pairs by lanes and by the
-         frames of a call; with `rows` every row of the last three";
+         frames of a call, of which `rows` prints every row; ranges by their lanes one by one";
 
 struct Comparison {
     name: &'static str,
@@ -42,9 +43,9 @@ struct Comparison {
 
 /// Spans are in singles, blocks and largest; read lists in phases and singles; samples in waves and singles;
 /// state in waves, decimate, singles, blocks and largest; decimated buffers in decimate; whole blocks in
-/// blocks and largest; refusals in decimate, singles, blocks, plans, pictures and files; cuts, demand 3 by brute
-/// force, in blocks; what a block needs in plans; drawn cycles in pictures; patches in files. The reading of the
-/// cycle has words of its own in cycle.
+/// blocks and largest, by one call and lane by lane; refusals in decimate, singles, blocks, plans, pictures and
+/// files; cuts, demand 3 by brute force, in blocks; what a block needs in plans; drawn cycles in pictures;
+/// patches in files. The reading of the cycle has words of its own in cycle.
 const COMPARISONS: [Comparison; 11] = [
     Comparison { name: "leaves", parts: leaves::PARTS, quick: 200_000, round: 1_000_000 },
     Comparison { name: "cycle", parts: cycle::PARTS, quick: 1_000, round: 2_000 },

@@ -32,11 +32,12 @@ impl Argument {
         match self {
             Self::Mode0 | Self::Mode1 => kind != Kind::Stretch,
             Self::Factor | Self::Lanes | Self::Active | Self::Frames => true,
-            Self::Lane | Self::Frame => kind.is_single(),
+            Self::Lane => kind.has_lane(),
+            Self::Frame => kind.is_single(),
             Self::Range => kind != Kind::Prepare,
             Self::Asked => kind == Kind::Stretch,
-            Self::Rate => matches!(kind, Kind::Reads | Kind::Prepare | Kind::Run),
-            Self::Count0 | Self::Count1 | Self::Count2 => kind == Kind::Run,
+            Self::Rate => kind.has_rate(),
+            Self::Count0 | Self::Count1 | Self::Count2 => kind.is_run(),
             Self::Cells(buffer) => kind.buffers().contains(&buffer),
         }
     }
@@ -52,8 +53,11 @@ const OPEN: u32 = u32::MAX;
 /// buffer then can't be too short.
 const EMPTY: u32 = OPEN - 1;
 
+/// The line of no active lane: 3 in a call about one of them, and open in others.
+const NO_LANE: u32 = OPEN - 2;
+
 /// Those that set a number. Later ones go by what earlier ones have set.
-const NUMBER_CAUSES: [NumberCause; 78] = {
+const NUMBER_CAUSES: [NumberCause; 80] = {
     use Argument::*;
     [
         (0, Mode0, |c| c.modes[0] = 69),
@@ -81,12 +85,14 @@ const NUMBER_CAUSES: [NumberCause; 78] = {
         (0, Lanes, |c| c.lanes = 64),
         (3, Lanes, |c| c.lanes = 65),
         (3, Lanes, |c| c.lanes = u32::MAX),
-        (OPEN, Active, |c| c.active = 0),
+        (NO_LANE, Active, |c| c.active = 0),
         (0, Active, |c| c.active = c.lanes),
         (3, Active, |c| c.active = c.lanes.wrapping_add(1)),
         (3, Active, |c| c.active = u32::MAX),
         (0, Lane, |c| c.lane = c.active.wrapping_sub(1)),
         (3, Lane, |c| c.lane = c.active),
+        (3, Lane, |c| c.lane = c.lanes),
+        (3, Lane, |c| c.lane = c.lane.wrapping_add(256)),
         (3, Lane, |c| c.lane = u32::MAX),
         (OPEN, Frames, |c| c.frames = 0),
         (0, Frames, |c| c.frames = c.first + c.count),
@@ -147,9 +153,14 @@ const ALL: usize = usize::MAX;
 
 /// The causes of a kind: its numbers', and one cell or all cells lacking of each of its buffers.
 pub fn causes(kind: Kind) -> Vec<Cause> {
-    let empty = if kind.is_single() { 4 } else { OPEN };
+    let line_of = |line| match line {
+        EMPTY if kind.is_single() => 4,
+        NO_LANE if kind.has_lane() => 3,
+        EMPTY | NO_LANE => OPEN,
+        _ => line,
+    };
     let numbers = NUMBER_CAUSES.into_iter().map(|(line, argument, set)| Cause {
-        line: if line == EMPTY { empty } else { line },
+        line: line_of(line),
         argument,
         set: Box::new(move |asked| set(&mut asked.call)),
     });
@@ -198,7 +209,7 @@ impl Asked {
 fn right(kind: Kind) -> [Asked; 3] {
     let modes = match kind {
         Kind::Sample => [58, 21],
-        Kind::Run => [39, 21],
+        Kind::Run | Kind::LaneRun => [39, 21],
         _ => [39, 12],
     };
     let call = Call {
@@ -220,7 +231,7 @@ fn right(kind: Kind) -> [Asked; 3] {
         x: 0.625,
     };
     // a run writes rows of all of them
-    let (frames, count) = if kind == Kind::Run { (192, 24) } else { (4096, 96) };
+    let (frames, count) = if kind.is_run() { (192, 24) } else { (4096, 96) };
     let long = Call { factor: 8, lanes: 2, active: 2, lane: 1, frames, first: frames - count, count, ..call };
     let least = Call { factor: 1, lanes: 1, active: 1, lane: 0, frames: 1, first: 0, count: 1, ..call };
     let least = Call { frame: 0, asked: 1, ..least };
@@ -237,7 +248,7 @@ fn largest(kind: Kind, g: &mut Generator) -> Lending {
         Some(&number) if buffer == Buffer::Numbers => number,
         _ => Floats::Mixed.cell(buffer, g),
     });
-    if kind == Kind::Run {
+    if kind.is_run() {
         cells.words = rows(g, length(Buffer::Words), 8, false);
     }
     Lending { kind, cells, lengths: [0; Buffer::ALL.len()] }

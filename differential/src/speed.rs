@@ -5,6 +5,7 @@ mod blocks;
 mod clock;
 mod decimations;
 mod files;
+mod lanes;
 mod leaves;
 mod lists;
 mod markdown;
@@ -16,7 +17,7 @@ mod shapes;
 mod summary;
 
 /// The parts by their names; those that sum rows up print every one of them on demand.
-const PARTS: [(&str, fn(bool)); 9] = [
+const PARTS: [(&str, fn(bool)); 10] = [
     ("leaves", |_| leaves::print()),
     ("lists", |_| lists::print()),
     ("shapes", |_| shapes::print()),
@@ -26,6 +27,7 @@ const PARTS: [(&str, fn(bool)); 9] = [
     ("pairs", pairs::print),
     ("modes", modes::print),
     ("ranges", ranges::print),
+    ("lanes", |_| lanes::print()),
 ];
 
 /// Prints the named part, or all if none is named; after it the word `rows` asks for every row. Whether the

@@ -1,5 +1,5 @@
-//! Demand 3 on the library alone: a block in one call, against any list of calls whose accepted ranges
-//! follow one another from the block's start to its end.
+//! Demand 3 on the library alone: a block in one call, against any list of calls, block runs and runs of the
+//! lane, whose accepted ranges follow one another from the block's start to its end.
 
 use super::drawn::{Block, Tables, next};
 use crate::guards::{GUARDS, differs};
@@ -8,6 +8,9 @@ use crate::refusals::{Asked, Cause, causes, some};
 use crate::tally::Tally;
 use programs::Generator;
 use programs::singles::{Buffer, Buffers, Call, Kind, refusal};
+
+/// What the calls of a cut block are drawn from, with the causes of their refusals.
+type Kinds = [(Kind, Vec<Cause>); 2];
 
 /// A lane's state.
 const STATE: [Buffer; 4] = [Buffer::Pairs, Buffer::Fm, Buffer::Last, Buffer::State];
@@ -29,12 +32,13 @@ fn same(x: f32, g: &mut Generator) -> f32 {
 }
 
 impl Lane<'_> {
-    /// A call of the block with this range and any count of active lanes, the lane among them.
+    /// A call of the block with this range and any count of active lanes, the lane among them, or the lane's.
     fn call(&self, first: u32, count: u32, g: &mut Generator) -> Call {
         let block = &self.block.call;
         Call {
             characters: block.characters.map(|x| same(x, g)),
             active: self.lane + 1 + (g.draw() >> 8) % (block.lanes - self.lane),
+            lane: self.lane,
             first,
             count,
             ..*block
@@ -50,16 +54,16 @@ impl Lane<'_> {
     }
 
     /// Buffers for a call, some longer than it asks for. All cells that aren't held are drawn afresh.
-    fn lend(&self, call: &Call, g: &mut Generator) -> Lending {
+    fn lend(&self, kind: Kind, call: &Call, g: &mut Generator) -> Lending {
         let is_given = |buffer: Buffer| buffer.optional().is_none_or(|i| self.block.draws.gives(i));
-        let is_lent = |buffer: Buffer| Kind::Run.buffers().contains(&buffer) && is_given(buffer);
+        let is_lent = |buffer: Buffer| kind.buffers().contains(&buffer) && is_given(buffer);
         let lengths = Buffer::ALL.map(|buffer| match is_lent(buffer) {
             true => buffer.asked(call) as usize + [0, 0, 1, 70][(g.draw() >> 30) as usize],
             false => 0,
         });
         let floats = Floats::draw(g);
         let length = |buffer: Buffer| lengths[buffer as usize] + GUARDS;
-        let mut cells = Buffers::new(Kind::Run.buffers(), length, |buffer, i| match self.holds(buffer, i) {
+        let mut cells = Buffers::new(kind.buffers(), length, |buffer, i| match self.holds(buffer, i) {
             true => same(self.cells.floats[buffer as usize][i], g),
             false => floats.cell(buffer, g),
         });
@@ -67,7 +71,7 @@ impl Lane<'_> {
             let cell = |i| if self.holds(buffer, i) { self.cells.words[of][i] } else { g.draw() };
             (0..lengths[buffer as usize]).map(cell).collect()
         });
-        Lending { kind: Kind::Run, cells, lengths }
+        Lending { kind, cells, lengths }
     }
 
     /// The lane's cells of a buffer, by their places.
@@ -85,29 +89,40 @@ impl Lane<'_> {
         }
     }
 
-    fn accepted(&mut self, first: u32, count: u32, g: &mut Generator, tally: &mut Tally) {
+    fn accepted(&mut self, kind: Kind, first: u32, count: u32, g: &mut Generator, tally: &mut Tally) {
         let call = self.call(first, count, g);
-        let mut lending = self.lend(&call, g);
+        let mut lending = self.lend(kind, &call, g);
         lending.alone(&call, tally);
         self.take(&lending);
         let rows = self.column(Buffer::Output).skip(first as usize).take(count as usize);
         self.output.extend(rows.map(|at| lending.cells.floats[Buffer::Output as usize][at]));
     }
 
+    /// An accepted run of another lane, if one is active, which is lent this lane's state.
+    fn others(&mut self, first: u32, count: u32, g: &mut Generator, tally: &mut Tally) {
+        let call = self.call(first, count, g);
+        let lane = (g.draw() >> 8) % call.active;
+        if lane != self.lane {
+            let mut lending = self.lend(Kind::LaneRun, &call, g);
+            lending.alone(&Call { lane, ..call }, tally);
+            self.take(&lending);
+        }
+    }
+
     /// A call that some causes are put into, if the table refuses it; every other time it is lent the
     /// lane's state.
-    fn refused(&mut self, first: u32, causes: &[Cause], g: &mut Generator, tally: &mut Tally) {
+    fn refused(&mut self, first: u32, (kind, causes): &(Kind, Vec<Cause>), g: &mut Generator, tally: &mut Tally) {
         let Call { frames, .. } = self.block.call;
         let right = self.call(first, next(first, (frames - first).max(1), g), g);
         let mut asked = Asked::new(right);
         for cause in some(causes, g) {
             (cause.set)(&mut asked);
         }
-        let mut lending = self.lend(&right, g);
+        let mut lending = self.lend(*kind, &right, g);
         for (length, lacking) in lending.lengths.iter_mut().zip(asked.lacking) {
             *length = length.saturating_sub(lacking);
         }
-        if refusal(Kind::Run, &asked.call, &lending.lengths) == 0 {
+        if refusal(*kind, &asked.call, &lending.lengths) == 0 {
             return;
         }
         let is_lent = g.draw() >> 31 == 0;
@@ -122,18 +137,21 @@ impl Lane<'_> {
         }
     }
 
-    /// Accepted ranges from the block's start to its end, empty ones and refused calls among them.
-    fn run(&mut self, causes: &[Cause], g: &mut Generator, tally: &mut Tally) {
+    /// Accepted ranges from the block's start to its end, empty ones, refused calls and other lanes' among
+    /// them.
+    fn run(&mut self, kinds: &Kinds, g: &mut Generator, tally: &mut Tally) {
         let Call { frames, .. } = self.block.call;
         let mut first = 0;
         loop {
-            match g.draw() >> 29 {
-                0 | 1 => self.refused(first, causes, g, tally),
-                2 => self.accepted(first, 0, g, tally),
+            let of = &kinds[(g.draw() >> 31) as usize];
+            match g.draw() >> 28 {
+                0..=3 => self.refused(first, of, g, tally),
+                4 => self.accepted(of.0, first, 0, g, tally),
+                5 => self.others(first, frames - first, g, tally),
                 _ if first == frames => return,
                 _ => {
                     let count = next(first, frames - first, g);
-                    self.accepted(first, count, g, tally);
+                    self.accepted(of.0, first, count, g, tally);
                     first += count;
                 }
             }
@@ -151,7 +169,7 @@ impl Lane<'_> {
 pub fn compare(count: u64, tally: &mut Tally) {
     let mut g = tally.generator(0x7feb_352d);
     let tables = Tables::new(&mut g);
-    let causes = causes(Kind::Run);
+    let kinds = [Kind::Run, Kind::LaneRun].map(|kind| (kind, causes(kind)));
     for i in 0..count {
         let mut block = Block::draw(pair(i), &tables, &mut g);
         if g.draw() >> 31 == 0 {
@@ -161,8 +179,8 @@ pub fn compare(count: u64, tally: &mut Tally) {
         let cells = block.lend(&mut g).cells;
         let [mut whole, mut cut] =
             [cells.clone(), cells].map(|cells| Lane { block: &block, lane, cells, output: Vec::new() });
-        whole.accepted(0, block.call.frames, &mut g, tally);
-        cut.run(&causes, &mut g, tally);
+        whole.accepted(Kind::Run, 0, block.call.frames, &mut g, tally);
+        cut.run(&kinds, &mut g, tally);
         for (name, (want, got)) in ["output", "state"].into_iter().zip(whole.left().iter().zip(&cut.left())) {
             let wrong = differs(got, want);
             tally.case(wrong.is_none(), || {

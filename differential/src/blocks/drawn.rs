@@ -87,6 +87,17 @@ impl<'a> Block<'a> {
     pub fn lend(&self, g: &mut Generator) -> Lending {
         Lending::drawn(Kind::Run, &self.call, &self.draws, self.floats, |buffer| self.fixed(buffer), g)
     }
+
+    /// Runs of its ranges; every fourth has its own count of active lanes.
+    pub fn runs(&self, g: &mut Generator) -> Vec<Call> {
+        let ranges = ranges(self.call.frames, g);
+        let run = |[first, count]: [u32; 2]| {
+            let how = g.draw() >> 8;
+            let active = if how & 3 == 0 { (how >> 2) % (self.call.lanes + 1) } else { self.call.active };
+            Call { active, first, count, ..self.call }
+        };
+        ranges.into_iter().map(run).collect()
+    }
 }
 
 /// How many of the frames that are left, one or more, the next range has: one, some, those to a

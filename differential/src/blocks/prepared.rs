@@ -1,7 +1,8 @@
 //! Blocks one after another as a card makes them: the spans by `prepare`, then ranges that follow one
-//! another. Each side goes on with its own spans and state.
+//! another, in the library at times lane by lane. Each side goes on with its own spans and state.
 
 use super::drawn::{Block, Tables, ranges};
+use super::lanes::by_lanes;
 use crate::cycle;
 use crate::guards::differs;
 use crate::lending::{pair, ported};
@@ -48,17 +49,30 @@ impl Sides {
         self.theirs.words.clone_from(&self.ours.words);
     }
 
-    fn call(&mut self, kind: Kind, call: &Call, tally: &mut Tally) {
-        let got = ported(kind, call, self.ours.lend(&self.lengths));
+    /// A call of the oracle, and of the library the same call or all that it is made of.
+    fn call(&mut self, kind: Kind, call: &Call, ours: &[(Kind, Call)], tally: &mut Tally) {
         let want = self.theirs.lend(&self.lengths).answer(kind, call);
-        let is_same = got.iter().copied().eq(want.iter().copied().map(u64::from));
-        tally.case(is_same, || format!("{kind:?} of {call:x?}: {got:08x?}, the oracle {want:08x?}"));
+        for (kind, call) in ours {
+            let got = ported(*kind, call, self.ours.lend(&self.lengths));
+            let is_same = got.iter().copied().eq(want.iter().copied().map(u64::from));
+            tally.case(is_same, || format!("{kind:?} of {call:x?}: {got:08x?}, the oracle {want:08x?}"));
+        }
+        let by = ours.first().map(|(kind, _)| kind);
         for &buffer in kind.changed() {
             let [ours, theirs] = [&self.ours, &self.theirs].map(|cells| &cells.floats[buffer as usize]);
             let wrong = differs(ours, theirs);
-            tally.case(wrong.is_none(), || format!("{buffer:?} of {kind:?} of {call:x?}: cell {wrong:?}"));
+            tally.case(wrong.is_none(), || format!("{buffer:?} of {kind:?} by {by:?} of {call:x?}: cell {wrong:?}"));
         }
     }
+}
+
+/// A run, every other time by its active lanes.
+fn made_of(run: Call, g: &mut Generator) -> Vec<(Kind, Call)> {
+    if g.draw() >> 31 == 0 {
+        return vec![(Kind::Run, run)];
+    }
+    let calls = by_lanes(&[run], g).into_iter().filter(|call| call.lane < call.active);
+    calls.map(|call| (Kind::LaneRun, call)).collect()
 }
 
 /// One after another with the same numbers.
@@ -66,9 +80,10 @@ fn in_a_row(blocks: u32, block: &Block<'_>, g: &mut Generator, tally: &mut Tally
     let mut sides = Sides::new(block, g);
     for _ in 0..blocks {
         sides.draw(block, g);
-        sides.call(Kind::Prepare, &block.call, tally);
+        sides.call(Kind::Prepare, &block.call, &[(Kind::Prepare, block.call)], tally);
         for [first, count] in ranges(block.call.frames, g) {
-            sides.call(Kind::Run, &Call { first, count, ..block.call }, tally);
+            let run = Call { first, count, ..block.call };
+            sides.call(Kind::Run, &run, &made_of(run, g), tally);
         }
     }
 }

@@ -1,15 +1,16 @@
 //! A block run measured against the oracle's on the same block: all lanes active, the card's designs, floats of
 //! the sizes that a render has.
 
-use super::clock::{Times, medians};
+use super::clock::{Times, medians_of};
 use crate::card;
 use crate::guards::differs;
 use programs::Generator;
 use programs::blocks::{BUFFERS, angles};
 use programs::decimations::numbers;
-use programs::singles::{Buffer, Buffers, Call, Draws, Kind, Lengths, Most};
+use programs::singles::{Buffer, Buffers, Call, Draws, Kind, Lengths, Most, Slices};
 use ruled::api::halfband::{self, Design, Kept};
 use ruled::api::{self, Card, Rows, State};
+use std::array;
 use std::hint::black_box;
 
 /// How many samples at least a round renders.
@@ -98,7 +99,24 @@ impl Run {
 
     /// Its nanoseconds a rendered sample.
     pub fn measured(&self) -> Times {
-        Block::new(self).measured(self.way.range)
+        let [times] = self.by([Kind::Run]);
+        times
+    }
+
+    /// Those of some kinds of the library's calls.
+    pub fn by<const KINDS: usize>(&self, kinds: [Kind; KINDS]) -> [Times; KINDS] {
+        Block::new(self).measured(self.way.range, kinds)
+    }
+}
+
+/// A range by one call, or by a call for each lane.
+fn make(kind: Kind, call: &Call, lent: &mut Slices<'_>) {
+    if kind == Kind::Run {
+        black_box(card::block_run(call, lent));
+        return;
+    }
+    for lane in 0..call.active {
+        black_box(card::lane_run(&Call { lane, ..*call }, lent));
     }
 }
 
@@ -139,11 +157,12 @@ impl Block {
         block
     }
 
-    /// Both sides in calls of so many host frames. What they are lent is made before, as a host has it at
-    /// hand, and the Rust's decimator keeps its state, as the crate's does.
-    fn measured(mut self, range: u32) -> Times {
-        let mut theirs = self.cells.clone();
-        let (call, mut ours, lent) = (self.call, self.cells.lend(&self.lengths), theirs.lend(&self.lengths));
+    /// The Rust and each kind of the library's calls, in ranges of so many host frames. What they are lent is
+    /// made before, as a host has it at hand, and the Rust's decimator keeps its state, as the crate's does.
+    fn measured<const KINDS: usize>(mut self, range: u32, kinds: [Kind; KINDS]) -> [Times; KINDS] {
+        let mut made = kinds.map(|_| self.cells.clone());
+        let mut ours = made.each_mut().map(|cells| cells.lend(&self.lengths));
+        let (call, lent) = (self.call, self.cells.lend(&self.lengths));
         let card = Card::new(&call.settings(), &lent.lent);
         let rows = Rows { cycle: lent.cycle, words: lent.words, steps: lent.steps, inner: lent.inner };
         let mut state = State { pairs: lent.pairs, fm: lent.fm, last: lent.last };
@@ -152,30 +171,25 @@ impl Block {
         let blocks = SAMPLES.div_ceil(samples);
         let firsts = || (0..blocks).flat_map(|_| (0..call.frames).step_by(range as usize));
         let rounds = (ALL_SAMPLES / (blocks * samples)).clamp(LEAST_ROUNDS, MOST_ROUNDS);
-        let times = medians(
-            rounds as usize,
-            f64::from(blocks * samples),
-            || {
-                for first in firsts() {
-                    black_box(card::block_run(&black_box(Call { first, count: range, ..call }), &mut ours));
-                }
-            },
-            || {
-                for first in firsts() {
+        let times = medians_of(KINDS + 1, rounds as usize, f64::from(blocks * samples), |side| {
+            for first in firsts() {
+                if side < KINDS {
+                    make(kinds[side], &black_box(Call { first, count: range, ..call }), &mut ours[side]);
+                } else {
                     let range = black_box(first as usize..(first + range) as usize);
                     black_box(&card).run_kept(range, &mut kept, &rows, lent.output, lent.work, state.again());
                 }
-            },
-        );
+            }
+        });
         kept.state_to(lent.state);
-        self.check(&theirs);
-        times
+        made.iter().for_each(|ours| self.check(ours));
+        array::from_fn(|side| Times { here: times[side], rust: times[KINDS] })
     }
 
-    /// Both sides have done the same.
-    fn check(&self, theirs: &Buffers) {
+    /// The library has done the same as the Rust.
+    fn check(&self, ours: &Buffers) {
         for &buffer in Kind::Run.changed() {
-            let [ours, theirs] = [&self.cells, theirs].map(|cells| &cells.floats[buffer as usize]);
+            let [ours, theirs] = [ours, &self.cells].map(|cells| &cells.floats[buffer as usize]);
             assert_eq!(differs(ours, theirs), None, "{buffer:?} of {:?}", self.call);
         }
     }

@@ -1,4 +1,4 @@
-//! Both sides' times, taken by turns so that neither has the quieter machine.
+//! The sides' times, taken by turns so that none has the quieter machine.
 
 use std::ffi::{c_int, c_long};
 use std::time::Instant;
@@ -71,11 +71,18 @@ fn thread_time(run: impl FnOnce()) -> f64 {
 
 /// The medians over so many rounds, in which each side has `count` things to do.
 pub fn medians(rounds: usize, count: f64, mut here: impl FnMut(), mut rust: impl FnMut()) -> Times {
-    let turns: Vec<[f64; 2]> = (0..rounds).map(|_| [thread_time(&mut here), thread_time(&mut rust)]).collect();
-    let [here, rust] = [0, 1].map(|side| {
+    let times = medians_of(2, rounds, count, |side| if side == 0 { here() } else { rust() });
+    Times { here: times[0], rust: times[1] }
+}
+
+/// Those of any sides, which go by their numbers.
+pub fn medians_of(sides: usize, rounds: usize, count: f64, mut round: impl FnMut(usize)) -> Vec<f64> {
+    let mut turn = || -> Vec<f64> { (0..sides).map(|side| thread_time(|| round(side))).collect() };
+    let turns: Vec<Vec<f64>> = (0..rounds).map(|_| turn()).collect();
+    let median = |side: usize| {
         let mut times: Vec<f64> = turns.iter().map(|turn| turn[side]).collect();
         times.sort_by(f64::total_cmp);
         times[rounds / 2] * 1e9 / count
-    });
-    Times { here, rust }
+    };
+    (0..sides).map(median).collect()
 }

@@ -30,6 +30,8 @@ pub enum Kind {
     Stretch,
     /// The block run.
     Run,
+    /// One lane's share of it.
+    LaneRun,
 }
 
 impl Kind {
@@ -48,7 +50,7 @@ impl Kind {
                 Base0, Base1, Mod0, Mod1, Source0, Source1, Curve, Inner, Stretch, Add,
             ],
             Self::Stretch => &[Stretch, Add],
-            Self::Run => &[
+            Self::Run | Self::LaneRun => &[
                 Coefs, Numbers, Base0, Base1, Mod0, Mod1, Source0, Source1, Curve, Cycle, Words,
                 Steps, Inner, Output, Work, Pairs, Fm, Last, Decimator,
             ],
@@ -63,14 +65,32 @@ impl Kind {
             Self::Sample => &[Pairs, Last],
             Self::Prepare => &[Inner, Stretch, Add],
             Self::Stretch => &[],
-            Self::Run => &[Output, Work, Pairs, Fm, Last, Decimator],
+            Self::Run | Self::LaneRun => &[Output, Work, Pairs, Fm, Last, Decimator],
         }
+    }
+
+    /// Whether it runs a range.
+    #[must_use]
+    pub fn is_run(self) -> bool {
+        matches!(self, Self::Run | Self::LaneRun)
     }
 
     /// Whether it is about one lane at one rendered frame or some.
     #[must_use]
     pub fn is_single(self) -> bool {
-        !matches!(self, Self::Prepare | Self::Run)
+        self != Self::Prepare && !self.is_run()
+    }
+
+    /// Whether it is about one lane.
+    #[must_use]
+    pub fn has_lane(self) -> bool {
+        self.is_single() || self == Self::LaneRun
+    }
+
+    /// Whether it has a rate.
+    #[must_use]
+    pub fn has_rate(self) -> bool {
+        matches!(self, Self::Reads | Self::Prepare) || self.is_run()
     }
 
     /// How many words its answer has.
@@ -78,7 +98,7 @@ impl Kind {
         match self {
             Self::Reads => 11,
             Self::Sample | Self::Stretch => 3,
-            Self::Prepare | Self::Run => 2,
+            Self::Prepare | Self::Run | Self::LaneRun => 2,
         }
     }
 }
@@ -243,7 +263,6 @@ pub fn refusal(kind: Kind, call: &Call, lengths: &Lengths) -> u32 {
     let is_single = kind.is_single();
     let has_modes = kind != Kind::Stretch;
     let has_range = kind != Kind::Prepare;
-    let has_rate = matches!(kind, Kind::Reads | Kind::Prepare | Kind::Run);
     let is_count = |count: &u32| (1..=12).contains(count);
     let [frames, first, count, frame, asked, factor] = [
         call.frames,
@@ -267,12 +286,12 @@ pub fn refusal(kind: Kind, call: &Call, lengths: &Lengths) -> u32 {
         (2, ![1, 2, 4, 8].contains(&call.factor)),
         (3, !(1..=64).contains(&call.lanes)),
         (3, call.active > call.lanes),
-        (3, is_single && call.lane >= call.active),
+        (3, kind.has_lane() && call.lane >= call.active),
         (4, frames > 4096),
         (4, has_range && first + count > frames),
         (4, is_single && is_outside),
-        (5, has_rate && !(8000..=192_000).contains(&call.rate)),
-        (6, kind == Kind::Run && !call.counts.iter().all(is_count)),
+        (5, kind.has_rate() && !(8000..=192_000).contains(&call.rate)),
+        (6, kind.is_run() && !call.counts.iter().all(is_count)),
         (7, short.iter().any(|buffer| !buffer.is_written(kind))),
         (8, short.iter().any(|buffer| buffer.is_written(kind))),
     ];
@@ -441,7 +460,7 @@ impl<'a> Slices<'a> {
     /// stretch has nothing and no modes.
     fn card(&self, kind: Kind, call: &Call) -> Card<'a> {
         let (modes, lent) = match kind {
-            Kind::Reads | Kind::Prepare | Kind::Run => (call.modes, self.lent),
+            Kind::Reads | Kind::Prepare | Kind::Run | Kind::LaneRun => (call.modes, self.lent),
             Kind::Sample => {
                 let curve = &NONE;
                 (call.modes, Lent { curve, ..self.lent })
@@ -460,12 +479,13 @@ impl<'a> Slices<'a> {
     }
 
     /// The oracle's answer to a call that the table passes.
-    fn accepted(self, kind: Kind, call: &Call) -> Vec<u32> {
+    fn accepted(mut self, kind: Kind, call: &Call) -> Vec<u32> {
         let card = self.card(kind, call);
         match kind {
             Kind::Reads | Kind::Sample | Kind::Stretch => return self.single(kind, call, &card),
             Kind::Prepare => card.prepare(self.inner, self.stretch, self.add),
             Kind::Run => self.run(call, &card),
+            Kind::LaneRun => self.lane_run(call, &card),
         }
         vec![]
     }
@@ -496,7 +516,33 @@ impl<'a> Slices<'a> {
         }
     }
 
-    fn run(self, call: &Call, card: &Card<'_>) {
+    /// The block run, after which the other lanes' cells are put back: the
+    /// crate has no run of one lane.
+    fn lane_run(&mut self, call: &Call, card: &Card<'_>) {
+        let before = self.written().map(|cells| cells.to_vec());
+        self.run(call, card);
+        for (after, before) in self.written().into_iter().zip(before) {
+            for (at, cell) in before.into_iter().enumerate() {
+                if at as u32 % call.lanes != call.lane {
+                    after[at] = cell;
+                }
+            }
+        }
+    }
+
+    /// What a run writes.
+    fn written(&mut self) -> [&mut [f32]; 6] {
+        [
+            self.output,
+            self.work,
+            self.pairs,
+            self.fm,
+            self.last,
+            self.state,
+        ]
+    }
+
+    fn run(&mut self, call: &Call, card: &Card<'_>) {
         let [first, count] = [call.first, call.count].map(|x| x as usize);
         let rows = Rows {
             cycle: self.cycle,
