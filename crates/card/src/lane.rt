@@ -1,12 +1,10 @@
 // One lane's run.
 use block::CallNumbers;
 use block::read_lengths;
-use block::run_lanes;
-use block::settings_of;
+use block::run_numbers;
 use block::write_lengths;
 use lane_run::refused_lane;
 use limits::Answer;
-use shaper::Range;
 ghost use lib.ListN.{length};
 ghost use Rattle.render.specs.Promises.{lent};
 ghost use Rattle.share.specs.Share.{buffers};
@@ -96,26 +94,24 @@ pub extern "C" fn shaper_lane_run(
     if number != 0 {
         return Answer { number, frames: 0 };
     }
-    let b = settings_of(
+    run_numbers(
         mode0,
         mode1,
         character0,
         character1,
         factor,
         lanes,
+        lane,
+        lane + 1,
         frames,
+        first,
+        count,
         rate,
         count0,
         count1,
         count2,
         coefs,
         numbers,
-    );
-    run_lanes(
-        b,
-        Range { first, count },
-        lane,
-        lane + 1,
         base0,
         base1,
         mod0,

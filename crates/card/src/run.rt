@@ -2,11 +2,9 @@
 use block::CallNumbers;
 use block::read_lengths;
 use block::refused;
-use block::run_lanes;
-use block::settings_of;
+use block::run_numbers;
 use block::write_lengths;
 use limits::Answer;
-use shaper::Range;
 ghost use lib.ListN.{length};
 ghost use Rattle.render.specs.Promises.{lent};
 ghost use Rattle.share.specs.Share.{buffers};
@@ -93,26 +91,24 @@ pub extern "C" fn shaper_block_run(
     if number != 0 {
         return Answer { number, frames: 0 };
     }
-    let b = settings_of(
+    run_numbers(
         mode0,
         mode1,
         character0,
         character1,
         factor,
         lanes,
+        0,
+        active,
         frames,
+        first,
+        count,
         rate,
         count0,
         count1,
         count2,
         coefs,
         numbers,
-    );
-    run_lanes(
-        b,
-        Range { first, count },
-        0,
-        active,
         base0,
         base1,
         mod0,

@@ -16,7 +16,6 @@ use Rattle.block.specs.Refusal.{blockRefusal}
 use Rattle.block.specs.Call.{callNumbers, readLengths, writeLengths, Taken}
 use Rattle.block.specs.Numbers.{settingsOf, rangeOf}
 use Rattle.block.proofs.RefusalLaws.{passed, by-parts, whole-slices, accepted}
-use Rattle.block.proofs.SharedLaws.{shared-by}
 use Rattle.block.proofs.CallLaws.{meets-refused, meets-shared}
 use Rattle.card.proofs.run.shaper_block_run.Statement.{statement}
 use Rattle.card.proofs.run.shaper_block_run.Tie as tie
@@ -32,16 +31,13 @@ measured c = c .before .before .before .before .before .before .before
 abbrev gathered : tie.After-refused → tie.After-write-lengths
 gathered c = c .before
 
-abbrev tested : tie.After-settings-of → tie.Else1
-tested c = c .before
+abbrev tested : tie.After-run-numbers-arg6 → tie.Else1
+tested c = c .before .before .before .before .before .before
 
-abbrev lends : tie.After-run-lanes-arg6 → tie.After-settings-of
-lends c = c .before .before .before .before .before .before
+abbrev lends : tie.After-run-numbers → tie.After-run-numbers-arg6
+lends c = c .before
 
-abbrev called : tie.After-run-lanes → tie.After-run-lanes-arg6
-called c = c .before
-
-abbrev ran : tie.After-slice-known12 → tie.After-run-lanes
+abbrev ran : tie.After-slice-known12 → tie.After-run-numbers
 ran c = c .before .before .before .before .before .before .before .before .before .before .before .before
 
 abbrev entry : tie.After-refused → tie.Start
@@ -93,27 +89,25 @@ returns c =
 
 -- ---- the run
 
-settings-of-requires : tie.Need-settings-of-requires
-settings-of-requires c κs =
-    let o = entry (c .before) in
-    whole-slices (numbers o) (lengths o) (passed (numbers o) (lengths o) _ (none c) .read)
-
 taken : (c : tie.Else1) → let o = entry (c .before) in Taken (settings o) (range o) (o .args .active) (reads o) (writes o)
 taken c =
     let o = entry (c .before) in
     accepted (settings o) (range o) (o .args .active) (length (o .args .coefs .now)) (length (o .args .numbers .now)) (reads o) (writes o) (none c)
 
-run-lanes-requires : tie.Need-run-lanes-requires
-run-lanes-requires c κs = let s = lends c in (omega arith, rw (s .settings-of .ensures) (taken (tested s)))
+run-numbers-requires : tie.Need-run-numbers-requires
+run-numbers-requires c κs =
+    let e = tested c in
+    let o = entry (e .before) in
+    let slices = whole-slices (numbers o) (lengths o) (passed (numbers o) (lengths o) _ (none e) .read) in
+    (slices .0, (slices .1, (omega arith, taken e)))
 
 returns-2 : tie.Need-returns-2
 returns-2 c =
     let did = ran c in
-    let s = lends (called did) in
-    let e = tested s in
+    let e = tested (lends did) in
     let o = entry (e .before) in
     meets-shared (settings o) (range o) (o .args .active) (length (o .args .coefs .now)) (length (o .args .numbers .now)) (reads o) (writes o) (none e)
-    (shared-by (s .settings-of .ensures) (did .run-lanes .ensures))
+    (did .run-numbers .ensures)
 
 pub shaper-block-run-spec : {M : Type 1} → statement M
 shaper-block-run-spec =
@@ -129,12 +123,11 @@ shaper-block-run-spec =
     (λ c. search needs)
     (λ c. search needs)
     returns
-    settings-of-requires
-    run-lanes-requires
-    (λ c. ran c .run-lanes .ensures .sizes .output)
-    (λ c. ran c .run-lanes .ensures .sizes .work)
-    (λ c. ran c .run-lanes .ensures .sizes .pairs)
-    (λ c. ran c .run-lanes .ensures .sizes .fm)
-    (λ c. ran c .run-lanes .ensures .sizes .last)
-    (λ c. ran c .run-lanes .ensures .sizes .dec)
+    run-numbers-requires
+    (λ c. ran c .run-numbers .ensures .sizes .output)
+    (λ c. ran c .run-numbers .ensures .sizes .work)
+    (λ c. ran c .run-numbers .ensures .sizes .pairs)
+    (λ c. ran c .run-numbers .ensures .sizes .fm)
+    (λ c. ran c .run-numbers .ensures .sizes .last)
+    (λ c. ran c .run-numbers .ensures .sizes .dec)
     returns-2)
