@@ -6,7 +6,7 @@
  *   ./trace Sync 40 0 LowPass 75 0.9 4 2 > lane.csv
  *
  * At factor 1 the output is the very sample that was rendered at the row's word. Above it the rendered samples are not
- * to be had: the call decimates them in place, in `work`, whose first rows then hold the output once more. */
+ * to be had whole: the call decimates them in place, in `work`, and so overwrites the first half of a range's. */
 #include "shaper_block.h"
 #include "slot.h"
 

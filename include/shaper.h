@@ -249,12 +249,12 @@ struct shaper_answer shaper_block_run(
  * its state. For tracing a lane in one stretch, with the other lanes run before or after it.
  *
  *   lane        the lane, below active
- *   all others  as in shaper_block_run and of its lengths, those of all lanes
+ *   all others  as in shaper_block_run; lengths go by `lanes`, though one lane's cells are used
  *
- * It writes the lane's cells of the six buffers that a run writes, and touches no cell of another lane. It is turned
- * down as shaper_block_run is, by the same lines in the same order, and by SHAPER_BAD_LANES also where `lane` is not
- * below `active`: with no active lane every call is turned down. An empty range is accepted and changes nothing.
- * Answers the range's frames.
+ * Of the six buffers that a run writes it changes cells of this lane alone: output rows of the range, work rows, its
+ * state. It is turned down as shaper_block_run is, by the same lines in the same order, and by SHAPER_BAD_LANES also
+ * where `lane` is not below `active`: with no active lane every call is turned down. An empty range is accepted and
+ * changes nothing. Answers the range's frames.
  *
  * Called with the same arguments once for each active lane, in any order, it leaves all six buffers as one
  * shaper_block_run does, NaN counting as one value; and where that is turned down, so is each of these calls, with the
@@ -263,8 +263,8 @@ struct shaper_answer shaper_block_run(
  * same buffers are two writers of them, even for different lanes: what is said above of writers forbids it.
  *
  * After an accepted call the lane's first `count` rows of `work` are its output rows of the range. At factor 1 these
- * are its rendered samples too; above that the decimation, which is done in place, has overwritten those, and nothing
- * keeps them. */
+ * are its rendered samples too. Above that the decimation, which is done in place, has overwritten the first half of
+ * the range's rendered samples; rows from count * factor / 2 on still hold the others, and no buffer keeps them all. */
 struct shaper_answer shaper_lane_run(
     uint32_t mode0, uint32_t mode1, float character0, float character1, uint32_t factor, uint32_t lanes,
     uint32_t active, uint32_t lane, uint32_t frames, uint32_t first, uint32_t count, uint32_t rate, uint32_t count0,

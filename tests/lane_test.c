@@ -1,12 +1,21 @@
 /* One lane's share of a block run (shaper_lane_run, shaper_run_lane; request E5): lanes in any order and one lane alone
- * against the run, ranges by both kinds of calls, empty ranges, every refusal and their order, and the call's boundary.
- * Prints how many checks pass, "P of T". */
+ * against the run, what work keeps, ranges by both kinds of calls, empty ranges, every refusal and their order, and the
+ * call's boundary. Under valgrind also that one lane's call reads no cell of another lane. Prints how many checks pass,
+ * "P of T". */
 #define _DEFAULT_SOURCE /* MAP_ANONYMOUS */
 #include "boundary.h"
 #include "cycle_model.h"
 #include "shaper_block.h"
 
 #include <math.h>
+
+#if __has_include(<valgrind/memcheck.h>)
+#include <valgrind/memcheck.h>
+#else
+#define RUNNING_ON_VALGRIND 0
+#define VALGRIND_MAKE_MEM_NOACCESS(cells, bytes) ((void)(cells), (void)(bytes))
+#define VALGRIND_MAKE_MEM_DEFINED(cells, bytes) ((void)(cells), (void)(bytes))
+#endif
 
 static uint32_t seed = 0x5eed;
 
@@ -63,6 +72,45 @@ static int ran(struct call c, enum kind kind, uint32_t lane, uint32_t first, uin
 {
     c.n[LANE] = lane, c.n[FIRST] = first, c.n[COUNT] = count;
     return answered(call(kind, &c), SHAPER_ACCEPTED, count);
+}
+
+static void mark(const struct call *c, unsigned b, size_t from, size_t to, int is_closed)
+{
+    float *cells = c->cells[b];
+    if (from < to && is_closed)
+        VALGRIND_MAKE_MEM_NOACCESS(cells + from, 4 * (to - from));
+    else if (from < to)
+        VALGRIND_MAKE_MEM_DEFINED(cells + from, 4 * (to - from));
+}
+
+/* Closes to valgrind what a lane's call may not even read, the other lanes' cells and those past what is asked for, or
+ * opens it again. A lane has a cell of each row, and all of a table. */
+static void mark_others(const struct call *c, int is_closed)
+{
+    static const unsigned tables = BIT(COEFS) | BIT(NUMBERS) | BIT(CURVE) | BIT(CYCLE);
+    if (!RUNNING_ON_VALGRIND)
+        return;
+    for (unsigned b = 0; b < BUFFER_END; b++) {
+        const int is_table = (tables & BIT(b)) != 0;
+        const size_t end = c->length[b] == 0 ? 0 : asked(b, c->n);
+        const size_t row = is_table ? end : c->n[LANES], own = is_table ? end : 1;
+        size_t from = 0;
+        for (size_t at = is_table ? 0 : c->n[LANE]; at < end; at += row) {
+            mark(c, b, from, at, is_closed);
+            from = at + own;
+        }
+        mark(c, b, from, c->length[b], is_closed);
+    }
+}
+
+/* A lane's share of a range. Under valgrind the run fails where it touches another cell. */
+static int ran_alone(struct call c, uint32_t lane, uint32_t first, uint32_t count)
+{
+    c.n[LANE] = lane, c.n[FIRST] = first, c.n[COUNT] = count;
+    mark_others(&c, 1);
+    const int right = ran(c, LANE_RUN, lane, first, count);
+    mark_others(&c, 0);
+    return right;
 }
 
 /* The same cells in every written buffer but `other`, also past what is asked for; NaN is one value. */
@@ -142,7 +190,7 @@ static void check_alone(const struct call *start, const struct call *whole)
     for (uint32_t lane = 0; lane < n[ACTIVE]; lane++) {
         struct call c = twin(start);
         int right = 1;
-        check(ran(c, LANE_RUN, lane, n[FIRST], n[COUNT]), "the answer of a lane");
+        check(ran_alone(c, lane, n[FIRST], n[COUNT]), "the answer of a lane");
         for (unsigned b = 0; b < BUFFER_END; b++)
             if (is_written(b))
                 right &= is_share(&c, start, whole, b, lane);
@@ -210,20 +258,38 @@ static void check_others(void)
     check_block(n, EXACT, BUFFER_END);
 }
 
-/* Without slots at factor 1 a lane's samples are the cycle's reads at its words. */
+/* Without slots a rendered sample is the cycle's read at its word. What shaper.h says that work keeps of them after the
+ * call: all at factor 1, and above it those from the middle of the range on. */
+static int is_kept(const struct call *c, uint32_t lane)
+{
+    const float *work = c->cells[WORK], *cycle = c->cells[CYCLE];
+    const size_t factor = c->n[FACTOR], lanes = c->n[LANES], end = c->n[COUNT] * factor;
+    const uint32_t *words = (const uint32_t *)c->cells[WORDS] + c->n[FIRST] * factor * lanes;
+    int right = 1;
+    for (size_t row = factor == 1 ? 0 : end / 2; row < end; row++)
+        right &= is_same(work[row * lanes + lane], read_at(cycle, words[row * lanes + lane]));
+    return right;
+}
+
+/* Every lane in ranges of a block of 70 frames, with a cycle of numbers and one that has NaN and infinities. */
 static void check_reads(void)
 {
-    static const uint32_t shape[] = {1, 3, 3, 40, 3, 30};
+    static const uint32_t ranges[][2] = {{0, 70}, {0, 1}, {31, 3}, {3, 30}, {33, 37}, {69, 1}, {5, 64}};
+    static const uint32_t shapes[][6] = {{1, 3, 3, 70, 0, 70}, {2, 1, 1, 70, 0, 70}, {2, 3, 2, 70, 0, 70},
+        {4, 5, 4, 70, 0, 70}, {8, 2, 2, 70, 0, 70}, {8, 4, 3, 70, 0, 70}};
     uint32_t n[NUMBER_END];
-    set_numbers(n, SHAPER_OFF, SHAPER_OFF, shape);
-    struct call c = prepared(n, EXACT, BUFFER_END);
-    const float *cycle = c.cells[CYCLE], *output = c.cells[OUTPUT];
-    const uint32_t *words = c.cells[WORDS];
-    int right = ran(c, LANE_RUN, 1, 3, 30);
-    for (unsigned i = 3 * 3 + 1; i < 33 * 3; i += 3)
-        right &= is_same(output[i], read_at(cycle, words[i]));
-    check(right, "the reads of one lane");
-    take_all_back(&c, EXACT);
+    for (unsigned i = 0; i < 2 * COUNT_OF(shapes); i++) {
+        set_numbers(n, SHAPER_OFF, SHAPER_OFF, shapes[i / 2]);
+        struct call c = prepared(n, EXACT, i % 2 ? CYCLE : BUFFER_END);
+        for (unsigned k = 0; k < n[ACTIVE] * COUNT_OF(ranges); k++) {
+            const uint32_t *range = ranges[k / n[ACTIVE]], lane = k % n[ACTIVE];
+            c.n[FIRST] = range[0], c.n[COUNT] = range[1];
+            check(ran_alone(c, lane, range[0], range[1]), "the answer of a lane without slots");
+            check(is_in_work(&c, lane), "the output of a lane without slots, in work");
+            check(is_kept(&c, lane), "the rendered samples that work keeps");
+        }
+        take_all_back(&c, EXACT);
+    }
 }
 
 /* Ranges of a block of 70 frames, an empty one among them. */
@@ -264,7 +330,7 @@ static struct call lane_by_lane(const struct call *start)
     for (uint32_t lane = 0; lane < c.n[ACTIVE]; lane++) {
         uint32_t first = 0;
         for (unsigned i = 0; i < COUNT_OF(cuts); i++) {
-            right &= ran(c, LANE_RUN, lane, first, cuts[i]);
+            right &= ran_alone(c, lane, first, cuts[i]);
             first += cuts[i];
         }
     }
@@ -353,7 +419,7 @@ static void check_empty(void)
         struct call start = prepared(n, EXACT, BUFFER_END), c = twin(&start);
         int right = c.cells[WORK] == NULL;
         for (uint32_t lane = 0; lane < n[ACTIVE]; lane++)
-            right &= ran(c, LANE_RUN, lane, n[FIRST], 0);
+            right &= ran_alone(c, lane, n[FIRST], 0);
         check(right, "the answers of an empty range");
         check(is_untouched(&c, &start), "what an empty range leaves");
         drop(&c);

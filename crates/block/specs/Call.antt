@@ -78,7 +78,7 @@ unfoldable pub refusalOf : Call → ℕ
 refusalOf c =
     blockRefusal (callNumbers (c .settings) (c .range) (c .active)) (readLengths (c .coefs) (c .numbers) (c .lent)) (writeLengths (c .before))
 
--- what `run_lanes` asks for: an accepted run has it
+-- what `run_lanes` asks for: an accepted run has it, and an accepted lane's call with lane + 1 for `active`
 pub record Taken (b : BlockSettings) (r : Range) (active : ℕ) (l : Lent) (w : Buffers) : Type 0 where
   pub limits : Limits b r
   pub actives : active ≤ b .shaper .lanes

@@ -16,7 +16,7 @@ ghost use Rattle.share.specs.Share.{buffers};
 ghost use Rattle.share.specs.Promises.{Shared};
 ghost use Rattle.block.specs.Call.{called, Taken, Meets};
 
-// What is accepted, a run or a lane's: the lanes from ≤ lane < to, one after another. No lane looks at
+// The lanes of an accepted call, a run's or a lane's: from ≤ lane < to, one after another. No lane looks at
 // another's numbers.
 pub fn run_lanes(
     b: BlockSettings,

@@ -1,9 +1,5 @@
 // The block run.
-use block::CallNumbers;
-use block::read_lengths;
-use block::refused;
-use block::run_numbers;
-use block::write_lengths;
+use crate::either::run_either;
 use limits::Answer;
 ghost use lib.ListN.{length};
 ghost use Rattle.render.specs.Promises.{lent};
@@ -11,8 +7,7 @@ ghost use Rattle.share.specs.Share.{buffers};
 ghost use Rattle.block.specs.Call.{called, Meets};
 ghost use Rattle.block.specs.Numbers.{settingsOf, rangeOf};
 
-// `block::block_run` with coefficients and sine and arctangent numbers on slices, which are read once they
-// are known to be long enough.
+// `block::block_run` with coefficients and sine and arctangent numbers on slices.
 #[no_mangle]
 pub extern "C" fn shaper_block_run(
     mode0: u32,
@@ -56,50 +51,16 @@ pub extern "C" fn shaper_block_run(
         (buffers (now (output .entry)) (now (work .entry)) (now (pairs .entry)) (now (fm .entry)) (now (last .entry)) (now (dec .entry)))
         (buffers (now (output .exit)) (now (work .exit)) (now (pairs .exit)) (now (fm .exit)) (now (last .exit)) (now (dec .exit))) a) ⌝ }
 {
-    let number = refused(
-        CallNumbers {
-            mode0,
-            mode1,
-            factor,
-            lanes,
-            active,
-            frames,
-            first,
-            count,
-            rate,
-            count0,
-            count1,
-            count2,
-        },
-        read_lengths(
-            base0,
-            base1,
-            mod0,
-            mod1,
-            source0,
-            source1,
-            curve,
-            cycle,
-            words,
-            steps,
-            inner,
-            coefs.len(),
-            numbers.len(),
-        ),
-        write_lengths(output, work, pairs, fm, last, dec),
-    );
-    if number != 0 {
-        return Answer { number, frames: 0 };
-    }
-    run_numbers(
+    run_either(
+        false,
         mode0,
         mode1,
         character0,
         character1,
         factor,
         lanes,
-        0,
         active,
+        0,
         frames,
         first,
         count,
@@ -126,9 +87,5 @@ pub extern "C" fn shaper_block_run(
         fm,
         last,
         dec,
-    );
-    Answer {
-        number: 0,
-        frames: count,
-    }
+    )
 }

@@ -1,5 +1,5 @@
--- The block of cuts' Example with both its lanes active: made by lanes in both orders, one lane through it in two ranges, and lanes'
--- numbers. Assumes nothing.
+-- The block of cuts' Example with both its lanes active: made by lanes in both orders; one lane through it in two ranges, also with calls
+-- for other lanes in front; and lanes' numbers. Assumes nothing.
 use mathlib.Core.Path.{_≡_, refl, _∙_}
 use mathlib.Core.Bool.{Bool, true, false, cond}
 use mathlib.Core.List.{[], _∷_}
@@ -14,13 +14,14 @@ use Rattle.halfband.specs.Ranges.{total}
 use Rattle.block.specs.declared.refusal.CallNumbers.{CallNumbers}
 use Rattle.block.specs.Refusal.{blockRefusal}
 use Rattle.block.specs.Call.{Call, callNumbers, readLengths, writeLengths}
-use Rattle.cuts.specs.Cuts.{stateOf, leaving, RunA, outputOf}
+use Rattle.share.specs.Share.{Buffers}
+use Rattle.cuts.specs.Cuts.{stateOf, entering, leaving, kept-back, RunA, outputOf}
 use Rattle.cuts.proofs.Made.{made, met-by}
 use Rattle.cuts.proofs.Runs.{range, whole}
 use Rattle.cuts.proofs.Example.{settings, lent, before}
-use Rattle.lane_run.specs.LaneCall.{laneRefusal}
-use Rattle.lane_run.specs.LaneCuts.{outputBy, Demand3ByLanes}
-use Rattle.lane_run.proofs.LaneMade.{lanesLeave, lanes-leave, downFrom, each-once, laneParts, lanePartsLeave, lane-parts}
+use Rattle.lane_run.specs.LaneCall.{laneRefusal, laneRefusalOf}
+use Rattle.lane_run.specs.LaneCuts.{lane-run, ByLanes, refused, other, outputBy, Demand3ByLanes}
+use Rattle.lane_run.proofs.LaneMade.{laneLeaves, madeLane, lane-met, lanesLeave, lanes-leave, downFrom, each-once, laneParts, lanePartsLeave, parts-from, lane-parts}
 use Rattle.lane_run.proofs.LaneCuts.{cuts-by-lanes}
 
 -- ---- both orders
@@ -72,6 +73,32 @@ pub traced : (outputBy 1 (laneParts both 1 0 before (4 ∷ 2 ∷ [])) ≡ output
     × (stateOf 2 1 (lanePartsLeave both 1 0 before (4 ∷ 2 ∷ [])) ≡ leaving both 1)
 unfolding Demand3ByLanes both settings total
 traced = cuts-by-lanes both 1 _ _ both-run (lane-parts both 1 both-run (4 ∷ 2 ∷ []) refl)
+
+-- the same with a call for a lane that is not active in front, and one for the other lane
+abbrev lane0 : Buffers
+lane0 = laneLeaves both 0 before
+
+not-active : laneRefusalOf (madeLane both 2 before) 2 ≡ 3
+unfolding both settings lent before laneRefusalOf laneRefusal firstOf cardDesigns spansOf
+not-active = refl
+
+lane-0-passes : laneRefusalOf (madeLane both 0 before) 0 ≡ 0
+unfolding both settings lent before laneRefusalOf laneRefusal firstOf cardDesigns spansOf
+lane-0-passes = refl
+
+between : ByLanes both 1 0 (entering both 1)
+    (lane-run 2 (madeLane both 2 before) ∷ lane-run 0 (madeLane both 0 before) ∷ laneParts both 1 0 lane0 (4 ∷ 2 ∷ []))
+    (stateOf 2 1 (lanePartsLeave both 1 0 lane0 (4 ∷ 2 ∷ [])))
+unfolding both settings total
+between =
+    refused (lane-run 2 (madeLane both 2 before)) (lane-met both 2 before) (λ ok. omega (arith, not-active))
+    (record { size = refl; cells = λ i h. kept-back refl })
+    (other 0 (madeLane both 0 before) (lane-met both 0 before) lane-0-passes (λ e. omega arith) (omega arith) refl
+    (parts-from both 1 both-run 0 lane0 (4 ∷ 2 ∷ []) refl (lane-met both 0 before .sizes)))
+
+pub traced-between : stateOf 2 1 (lanePartsLeave both 1 0 lane0 (4 ∷ 2 ∷ [])) ≡ leaving both 1
+unfolding Demand3ByLanes
+traced-between = cuts-by-lanes both 1 _ _ both-run between .1
 
 -- ---- numbers
 

@@ -15,7 +15,7 @@ use Rattle.cuts.proofs.Calls.{refused-rows, still-state}
 use Rattle.cuts.proofs.State.{listOf, state-listed}
 use Rattle.cuts.proofs.Made.{made, met-by}
 use Rattle.cuts.proofs.Cuts.{cuts}
-use Rattle.lane_run.specs.LaneCall.{laneNumber, LaneMeets}
+use Rattle.lane_run.specs.LaneCall.{laneRefusalOf, LaneMeets}
 use Rattle.lane_run.specs.Orders.{EndsAsRun}
 use Rattle.lane_run.specs.LaneCuts.{AnyCall, block-run, lane-run, callOf, numberOf, MeetsOf, ByLanes, done, refused, taken, other, rowsBy, outputBy, Demand3ByLanes}
 use Rattle.lane_run.proofs.LaneLaws.{accepted-active, accepted-run}
@@ -30,7 +30,7 @@ state-same n lane x y e = state-listed n lane x ∙ ap listOf e ∙ sym (state-l
 abbrev runOf : Call → Call
 runOf c = made (c .settings) (c .range) (c .active) (c .coefs) (c .numbers) (c .lent) (c .before)
 
-module _ (c : Call) (lane : ℕ) (did : LaneMeets c lane) (ok : laneNumber c lane ≡ 0) where
+module _ (c : Call) (lane : ℕ) (did : LaneMeets c lane) (ok : laneRefusalOf c lane ≡ 0) where
   run-accepted : refusalOf (runOf c) ≡ 0
   unfolding refusalOf
   run-accepted = accepted-run c lane ok
@@ -38,14 +38,14 @@ module _ (c : Call) (lane : ℕ) (did : LaneMeets c lane) (ok : laneNumber c lan
   ends-alike : columnsOf (lanesOf c) (c .after) lane ≡ columnsOf (lanesOf c) (runOf c .after) lane
   unfolding EndsAsRun
   ends-alike =
-      ends-as-run (runOf c) lane (c .before) (c .after) (c .answer) (met-by _ _ _ _ _ _ _) (accepted-active c lane ok) refl refl did .1
+      ends-as-run (runOf c) lane (c .before) (c .after) (c .answer) (met-by _ _ _ _ _ _ _) (accepted-active c lane ok) refl refl did
 
   run-leaves : leaving (runOf c) lane ≡ leaving c lane
   run-leaves = sym (state-same (lanesOf c) lane (c .after) (runOf c .after) ends-alike)
 
   run-rows : rowsOf lane (runOf c) ≡ rowsBy lane (lane-run lane c)
   run-rows =
-      rw (eq-eqb (refusalOf (runOf c)) 0 run-accepted, eq-eqb (laneNumber c lane) 0 ok, eq-eqb lane lane refl)
+      rw (eq-eqb (refusalOf (runOf c)) 0 run-accepted, eq-eqb (laneRefusalOf c lane) 0 ok, eq-eqb lane lane refl)
       (ap (λ (f : ℕ → Float). table (c .range .count) (λ k. f (c .range .first + k)))
       (sym (column-same (lanesOf c) lane (c .after) (runOf c .after) ends-alike Which.output)))
 
@@ -53,16 +53,16 @@ module _ (c : Call) (lane : ℕ) (did : LaneMeets c lane) (ok : laneNumber c lan
 
 refused-none : (lane : ℕ) (x : AnyCall) → (numberOf x ≡ 0 → ⊥) → rowsBy lane x ≡ []
 refused-none lane (block-run c) bad = refused-rows c bad lane
-refused-none lane (lane-run m c) bad = rw (ne-eqb (laneNumber c m) 0 bad)
+refused-none lane (lane-run m c) bad = rw (ne-eqb (laneRefusalOf c m) 0 bad)
 
 refused-still : (x : AnyCall) → MeetsOf x → (numberOf x ≡ 0 → ⊥) → callOf x .after ≡ callOf x .before
 refused-still (block-run c) m bad = m .refused bad
 refused-still (lane-run k c) m bad = m .refused bad
 
-other-none : (lane m : ℕ) (c : Call) → laneNumber c m ≡ 0 → (m ≡ lane → ⊥) → rowsBy lane (lane-run m c) ≡ []
-other-none lane m c ok ne = rw (eq-eqb (laneNumber c m) 0 ok, ne-eqb m lane ne)
+other-none : (lane m : ℕ) (c : Call) → laneRefusalOf c m ≡ 0 → (m ≡ lane → ⊥) → rowsBy lane (lane-run m c) ≡ []
+other-none lane m c ok ne = rw (eq-eqb (laneRefusalOf c m) 0 ok, ne-eqb m lane ne)
 
-other-still : (lane m : ℕ) (c : Call) → LaneMeets c m → laneNumber c m ≡ 0 → (m ≡ lane → ⊥) → lane < lanesOf c → leaving c lane ≡ entering c lane
+other-still : (lane m : ℕ) (c : Call) → LaneMeets c m → laneRefusalOf c m ≡ 0 → (m ≡ lane → ⊥) → lane < lanesOf c → leaving c lane ≡ entering c lane
 other-still lane m c did ok ne low =
     state-same (lanesOf c) lane (c .after) (c .before) (one-others (did .share ok) lane low (λ e. ne (sym e)))
 
@@ -84,13 +84,13 @@ from-same {a} {lane} {at} {e = e} same out r =
 
 module _ (a : Call) (lane : ℕ) where
   -- a call for the lane in front of them: the run with its arguments takes its place
-  lane-first : {at : ℕ} {s e rows : List Float} (k : ℕ) (c : Call) → k ≡ lane → LaneMeets c k → laneNumber c k ≡ 0 → Alike a c lane
+  lane-first : {at : ℕ} {s e rows : List Float} (k : ℕ) (c : Call) → k ≡ lane → LaneMeets c k → laneRefusalOf c k ≡ 0 → Alike a c lane
       → c .range .first ≡ at → entering c lane ≡ s → AsRuns a lane (at + c .range .count) (leaving c lane) e rows
       → AsRuns a lane at s e (rowsBy lane (lane-run k c) ++ rows)
   unfolding outputOf
   lane-first k c own m ok alike from lends rest =
       let did : LaneMeets c lane = subst (λ (l : ℕ). LaneMeets c l) own m in
-      let told : laneNumber c lane ≡ 0 = subst (λ (l : ℕ). laneNumber c l ≡ 0) own ok in
+      let told : laneRefusalOf c lane ≡ 0 = subst (λ (l : ℕ). laneRefusalOf c l ≡ 0) own ok in
       let r = from-same (run-leaves c lane did told) refl rest in
       record {
         calls = runOf c ∷ r .calls;

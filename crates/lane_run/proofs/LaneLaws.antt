@@ -1,6 +1,6 @@
 -- The laws of a lane's call: its number by the block run's, what an accepted one has, and what it promises turned down and done.
 -- Assumes nothing.
-use mathlib.Core.Path.{_≡_, refl, sym, _∙_}
+use mathlib.Core.Path.{_≡_, refl, sym, _∙_, subst}
 use mathlib.Core.Bool.{Bool, true, false, cond, not, _||_}
 use mathlib.Core.List.{[], _∷_}
 use Prim.Native.Nat.{ℕ, _+_, _<_, _≤_}
@@ -22,7 +22,10 @@ use Rattle.block.specs.Refusal.{readsShort, writesShort, blockRefusal}
 use Rattle.block.specs.Call.{Call, called, callNumbers, readLengths, writeLengths, refusalOf, Taken}
 use Rattle.block.proofs.RefusalLaws.{accepted}
 use Rattle.block.proofs.SharedLaws.{sizes-lengths}
-use Rattle.lane_run.specs.LaneCall.{laneRefusal, laneNumber, LaneMeets}
+use Rattle.block.proofs.CallLaws.{meets-refused, meets-shared}
+use Rattle.lane_run.specs.declared.either.Interval.{Interval}
+use Rattle.lane_run.specs.LaneCall.{laneRefusal, laneRefusalOf, LaneMeets}
+use Rattle.lane_run.specs.Either.{eitherRefusal, intervalOf, EitherMeets}
 
 -- ---- the number
 
@@ -100,16 +103,16 @@ module _ (call : CallNumbers) (lane : ℕ) (reads : ReadLengths) (writes : Write
 
 -- of a call
 module _ (c : Call) (lane : ℕ) where
-  pub number-active : lane < c .active → laneNumber c lane ≡ refusalOf c
-  unfolding laneNumber refusalOf
+  pub number-active : lane < c .active → laneRefusalOf c lane ≡ refusalOf c
+  unfolding laneRefusalOf refusalOf
   number-active on = active-number (callNumbers (c .settings) (c .range) (c .active)) lane _ _ on
 
-  pub accepted-active : laneNumber c lane ≡ 0 → lane < c .active
-  unfolding laneNumber
+  pub accepted-active : laneRefusalOf c lane ≡ 0 → lane < c .active
+  unfolding laneRefusalOf
   accepted-active ok = lane-active (callNumbers (c .settings) (c .range) (c .active)) lane _ _ ok
 
-  pub accepted-run : laneNumber c lane ≡ 0 → refusalOf c ≡ 0
-  unfolding laneNumber refusalOf
+  pub accepted-run : laneRefusalOf c lane ≡ 0 → refusalOf c ≡ 0
+  unfolding laneRefusalOf refusalOf
   accepted-run ok = lane-passed (callNumbers (c .settings) (c .range) (c .active)) lane _ _ ok
 
 -- ---- what it promises
@@ -132,7 +135,7 @@ module _ (b : BlockSettings) (r : Range) (active lane coefs numbers : ℕ) (l : 
 
   pub lane-refused : (answer : ℕ) → answer ≡ number → (answer ≡ 0 → ⊥)
       → LaneMeets (called b r active coefs numbers l w w (record { number = answer; frames = 0 })) lane
-  unfolding laneNumber
+  unfolding laneRefusalOf
   lane-refused answer e bad =
       record {
         number = e;
@@ -144,7 +147,7 @@ module _ (b : BlockSettings) (r : Range) (active lane coefs numbers : ℕ) (l : 
 
   pub lane-shared : {w' : Buffers} → number ≡ 0 → Shared b r l lane (lane + 1) w w'
       → LaneMeets (called b r active coefs numbers l w w' (record { number = 0; frames = r .count })) lane
-  unfolding laneNumber
+  unfolding laneRefusalOf
   lane-shared ok did =
       record {
         number = sym ok;
@@ -153,3 +156,53 @@ module _ (b : BlockSettings) (r : Range) (active lane coefs numbers : ℕ) (l : 
         share = λ z. did .lanes;
         sizes = sizes-lengths (did .sizes);
       }
+
+-- ---- either call
+
+pub as-run : (one : Bool) (lane : ℕ) (call : CallNumbers) (reads : ReadLengths) (writes : WriteLengths) → not one ≡ true
+    → eitherRefusal one lane call reads writes ≡ blockRefusal call reads writes
+as-run true lane call reads writes e = absurd (let z : _≡_ {A = ℕ} 0 1 = cc in omega arith)
+as-run false lane call reads writes e = refl
+
+pub as-lane : (one : Bool) (lane : ℕ) (call : CallNumbers) (reads : ReadLengths) (writes : WriteLengths) → not one ≡ false
+    → eitherRefusal one lane call reads writes ≡ laneRefusal lane call reads writes
+as-lane true lane call reads writes e = refl
+as-lane false lane call reads writes e = absurd (let z : _≡_ {A = ℕ} 0 1 = cc in omega arith)
+
+module _ (call : CallNumbers) (lane : ℕ) (reads : ReadLengths) (writes : WriteLengths) where
+  pub either-passed : (one : Bool) → eitherRefusal one lane call reads writes ≡ 0 → blockRefusal call reads writes ≡ 0
+  either-passed true ok = lane-passed call lane reads writes ok
+  either-passed false ok = ok
+
+module _ (b : BlockSettings) (r : Range) (active lane coefs numbers : ℕ) (l : Lent) (w : Buffers) where
+  abbrev told : Bool → ℕ
+  told one = eitherRefusal one lane (callNumbers b r active) (readLengths coefs numbers l) (writeLengths w)
+
+  pub either-active : (one : Bool) → told one ≡ 0 → one ≡ true → lane < active
+  either-active true ok e = lane-active (callNumbers b r active) lane _ _ ok
+  either-active false ok e = absurd (let z : _≡_ {A = ℕ} 0 1 = cc in omega arith)
+
+  pub either-taken : (one : Bool) → told one ≡ 0
+      → let lanes = intervalOf one lane active in (lanes .from ≤ lanes .to) × Taken b r (lanes .to) l w
+  either-taken true ok = (omega arith, lane-taken b r active lane coefs numbers l w ok)
+  either-taken false ok = (omega arith, accepted b r active coefs numbers l w ok)
+
+  pub either-refused : (one : Bool) (answer : ℕ) → answer ≡ told one → (answer ≡ 0 → ⊥)
+      → EitherMeets one (called b r active coefs numbers l w w (record { number = answer; frames = 0 })) lane
+  either-refused true = lane-refused b r active lane coefs numbers l w
+  either-refused false = meets-refused b r active coefs numbers l w
+
+  pub either-shared : (one : Bool) {w' : Buffers} → told one ≡ 0
+      → let lanes = intervalOf one lane active in Shared b r l (lanes .from) (lanes .to) w w'
+      → EitherMeets one (called b r active coefs numbers l w w' (record { number = 0; frames = r .count })) lane
+  either-shared true = lane-shared b r active lane coefs numbers l w
+  either-shared false = meets-shared b r active coefs numbers l w
+
+-- by settings and an interval that are the same
+pub taken-by : {b b' : BlockSettings} {r : Range} {i j : Interval} {l : Lent} {w : Buffers} → b' ≡ b → i ≡ j
+    → (j .from ≤ j .to) × Taken b r (j .to) l w → (i .from ≤ i .to) × Taken b' r (i .to) l w
+taken-by settings lanes taken = rw (settings, lanes) taken
+
+pub shared-at : {b : BlockSettings} {r : Range} {i j : Interval} {l : Lent} {w w' : Buffers} → i ≡ j
+    → Shared b r l (i .from) (i .to) w w' → Shared b r l (j .from) (j .to) w w'
+shared-at {b} {r} {i} {j} {l} {w} {w'} lanes = subst (λ (k : Interval). Shared b r l (k .from) (k .to) w w') lanes

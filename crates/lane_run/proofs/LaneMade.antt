@@ -19,7 +19,7 @@ use Rattle.block.specs.Call.{Call, Meets, callNumbers, readLengths, writeLength
 use Rattle.cuts.specs.Cuts.{stateOf, entering, RunA}
 use Rattle.cuts.proofs.Runs.{part, part-accepted}
 use Rattle.cuts.proofs.Made.{sharedAfter, shared-on, shared-off, shared-refused, shared-sizes}
-use Rattle.lane_run.specs.LaneCall.{laneRefusal, laneNumber, LaneMeets}
+use Rattle.lane_run.specs.LaneCall.{laneRefusal, laneRefusalOf, LaneMeets}
 use Rattle.lane_run.specs.Orders.{withBuffers, LaneCalls, no-lane, lane-then, AnyOrder}
 use Rattle.lane_run.specs.LaneCuts.{AnyCall, lane-run, ByLanes, done, taken}
 use Rattle.lane_run.proofs.LaneLaws.{number-active, lane-taken}
@@ -45,7 +45,7 @@ module _ (c : Call) (lane : ℕ) (w : Buffers) where
   madeLane = withBuffers c w laneLeaves laneAnswers
 
   pub lane-met : LaneMeets madeLane lane
-  unfolding laneNumber
+  unfolding laneRefusalOf
   lane-met =
       record {
         number = refl;
@@ -125,12 +125,12 @@ module _ (a : Call) (lane : ℕ) (w : RunA a lane) where
   F = a .settings .shaper .frames
 
   part-number : (at k : ℕ) (before : Buffers) → at + k ≤ F → writeLengths before ≡ writeLengths (a .before)
-      → laneNumber (madeLane (part a at k before) lane before) lane ≡ 0
+      → laneRefusalOf (madeLane (part a at k before) lane before) lane ≡ 0
   unfolding refusalOf
   part-number at k before fit size =
       number-active (madeLane (part a at k before) lane before) lane (w .active) ∙ part-accepted a lane w at k before fit size
 
-  parts-from : (at : ℕ) (before : Buffers) (ks : List ℕ) → at + total ks ≡ F → writeLengths before ≡ writeLengths (a .before)
+  pub parts-from : (at : ℕ) (before : Buffers) (ks : List ℕ) → at + total ks ≡ F → writeLengths before ≡ writeLengths (a .before)
       → ByLanes a lane at (stateOf (lanesOf a) lane before) (laneParts a lane at before ks)
       (stateOf (lanesOf a) lane (lanePartsLeave a lane at before ks))
   unfolding laneParts lanePartsLeave total

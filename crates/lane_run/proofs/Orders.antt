@@ -1,5 +1,5 @@
--- A lane's call beside the block run: it touches no other lane's cells, it ends for its lane as the run does, and made once for each
--- active lane, in any order, it leaves all buffers as the run does. Assumes nothing.
+-- A lane's call beside the block run: it touches no other lane's cells, it answers what the run does and ends for its lane as the run
+-- does, and made once for each active lane, in any order, it leaves all buffers as the run does. Assumes nothing.
 use mathlib.Core.Path.{_≡_, refl, sym, _∙_, ap}
 use mathlib.Core.Bool.{cond}
 use mathlib.Core.List.{List, [], _∷_}
@@ -23,8 +23,8 @@ use Rattle.block.specs.Call.{Call, Meets, callNumbers, readLengths, writeLength
 use Rattle.block.proofs.RefusalLaws.{call-taken, call-lanes}
 use Rattle.block.proofs.Unique.{buffers-same}
 use Rattle.cuts.specs.Cuts.{Which, buffer}
-use Rattle.lane_run.specs.LaneCall.{laneNumber, LaneMeets}
-use Rattle.lane_run.specs.Orders.{OthersKept, withBuffers, LaneCalls, no-lane, lane-then, AnyOrder, EndsAsRun}
+use Rattle.lane_run.specs.LaneCall.{laneRefusalOf, LaneMeets}
+use Rattle.lane_run.specs.Orders.{OthersKept, withBuffers, LaneCalls, no-lane, lane-then, AnyOrder, AnswersAsRun, EndsAsRun}
 use Rattle.lane_run.proofs.LaneLaws.{number-active, accepted-run}
 
 -- ---- other lanes' cells
@@ -41,13 +41,13 @@ column-same n l x y e Which.dec = col-of-blk nan 24 n l (x .dec) (y .dec) (omega
 
 pub others-kept : OthersKept
 unfolding OthersKept
-others-kept c lane did b i free = go (ℕ-discrete (laneNumber c lane) 0)
+others-kept c lane did b i free = go (ℕ-discrete (laneRefusalOf c lane) 0)
   where
     -- a cell by its row and its lane
     cell : (xs : List Float) → getD xs i nan ≡ col nan (lanesOf c) (i % lanesOf c) xs (i / lanesOf c)
     cell xs = ap (λ (k : ℕ). getD xs k nan) (sym (div-add-mod' i (lanesOf c))) ∙ sym (col-at nan (lanesOf c) (i % lanesOf c) xs (i / lanesOf c))
 
-    go : Dec (laneNumber c lane ≡ 0) → getD (buffer b (c .after)) i nan ≡ getD (buffer b (c .before)) i nan
+    go : Dec (laneRefusalOf c lane ≡ 0) → getD (buffer b (c .after)) i nan ≡ getD (buffer b (c .before)) i nan
     go (yes ok) =
         let low : i % lanesOf c < lanesOf c = mod-lt i (omega (arith, call-lanes c (accepted-run c lane ok))) in
         cell (buffer b (c .after))
@@ -61,18 +61,17 @@ others-kept c lane did b i free = go (ℕ-discrete (laneNumber c lane) 0)
 module _ (c : Call) where
   -- in buffers of the run's lengths an active lane's call has the run's number
   lane-number : {w w' : Buffers} {a : Answer} {lane : ℕ} → LaneMeets (withBuffers c w w' a) lane → lane < c .active
-      → writeLengths w ≡ writeLengths (c .before) → laneNumber (withBuffers c w w' a) lane ≡ refusalOf c
+      → writeLengths w ≡ writeLengths (c .before) → laneRefusalOf (withBuffers c w w' a) lane ≡ refusalOf c
   unfolding refusalOf
   lane-number {w} {w'} {a} {lane} did on size =
       number-active (withBuffers c w w' a) lane on
       ∙ ap (λ (k : WriteLengths). blockRefusal (callNumbers (c .settings) (c .range) (c .active)) (readLengths (c .coefs) (c .numbers) (c .lent)) k) size
 
-pub ends-as-run : EndsAsRun
-unfolding EndsAsRun
-ends-as-run c lane w w' a m on size same did =
-    ((λ j. record { number = number j; frames = frames j }), go (ℕ-discrete (refusalOf c) 0))
+pub answers-as-run : AnswersAsRun
+unfolding AnswersAsRun
+answers-as-run c lane w w' a m on size did j = record { number = number j; frames = frames j }
   where
-    told : laneNumber (withBuffers c w w' a) lane ≡ refusalOf c
+    told : laneRefusalOf (withBuffers c w w' a) lane ≡ refusalOf c
     told = lane-number c did on size
 
     number : a .number ≡ c .answer .number
@@ -80,6 +79,13 @@ ends-as-run c lane w w' a m on size same did =
 
     frames : a .frames ≡ c .answer .frames
     frames = did .frames ∙ ap (λ (k : ℕ). cond (eqb k 0) (c .range .count) 0) told ∙ sym (m .frames)
+
+pub ends-as-run : EndsAsRun
+unfolding EndsAsRun
+ends-as-run c lane w w' a m on size same did = go (ℕ-discrete (refusalOf c) 0)
+  where
+    told : laneRefusalOf (withBuffers c w w' a) lane ≡ refusalOf c
+    told = lane-number c did on size
 
     go : Dec (refusalOf c ≡ 0) → columnsOf (lanesOf c) w' lane ≡ columnsOf (lanesOf c) (c .after) lane
     go (yes ok) =

@@ -29,16 +29,16 @@ laneRefusal lane call reads writes =
     ∷ [])
 
 -- the number by the table
-unfoldable pub laneNumber : Call → ℕ → ℕ
-laneNumber c lane =
+unfoldable pub laneRefusalOf : Call → ℕ → ℕ
+laneRefusalOf c lane =
     laneRefusal lane (callNumbers (c .settings) (c .range) (c .active)) (readLengths (c .coefs) (c .numbers) (c .lent)) (writeLengths (c .before))
 
 -- a `Call` has the run's arguments. `share` is about every row of all six buffers and of every lane: this lane has its share of the
 -- range, and no cell of another is touched
 pub record LaneMeets (c : Call) (lane : ℕ) : Type 0 where
-  pub number : c .answer .number ≡ laneNumber c lane
-  pub frames : c .answer .frames ≡ cond (eqb (laneNumber c lane) 0) (c .range .count) 0
-  pub refused : (laneNumber c lane ≡ 0 → ⊥) → c .after ≡ c .before
-  pub share : laneNumber c lane ≡ 0
+  pub number : c .answer .number ≡ laneRefusalOf c lane
+  pub frames : c .answer .frames ≡ cond (eqb (laneRefusalOf c lane) 0) (c .range .count) 0
+  pub refused : (laneRefusalOf c lane ≡ 0 → ⊥) → c .after ≡ c .before
+  pub share : laneRefusalOf c lane ≡ 0
       → Each (lanesOf c) lane (lane + 1) (shareOf c) (columnsOf (lanesOf c) (c .before)) (columnsOf (lanesOf c) (c .after))
   pub sizes : writeLengths (c .after) ≡ writeLengths (c .before)

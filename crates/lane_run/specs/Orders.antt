@@ -33,11 +33,15 @@ pub data LaneCalls (c : Call) : List ℕ → Buffers → Buffers → Type 0 wher
 unfoldable pub AnyOrder : Type 0
 AnyOrder = (c : Call) (lanes : List ℕ) (w : Buffers) → Meets c → Once 0 (c .active) lanes → LaneCalls c lanes (c .before) w → w ≡ c .after
 
--- an active lane's call answers what the run does, and ends for its lane as the run does, if it starts as the run does for that lane: with
--- the same cells of it and buffers of the same lengths. Other lanes' cells are free
+-- an active lane's call in buffers of the run's lengths answers what the run does
+unfoldable pub AnswersAsRun : Type 0
+AnswersAsRun =
+    (c : Call) (lane : ℕ) (w w' : Buffers) (a : Answer) → Meets c → lane < c .active → writeLengths w ≡ writeLengths (c .before)
+    → LaneMeets (withBuffers c w w' a) lane → a ≡ c .answer
+
+-- and ends for its lane as the run does, if it starts with the same cells of that lane. Other lanes' cells are free
 unfoldable pub EndsAsRun : Type 0
 EndsAsRun =
-    (c : Call) (lane : ℕ) (w w' : Buffers) (a : Answer) → Meets c → lane < c .active
-    → writeLengths w ≡ writeLengths (c .before) → columnsOf (lanesOf c) w lane ≡ columnsOf (lanesOf c) (c .before) lane
-    → LaneMeets (withBuffers c w w' a) lane
-    → (a ≡ c .answer) × (columnsOf (lanesOf c) w' lane ≡ columnsOf (lanesOf c) (c .after) lane)
+    (c : Call) (lane : ℕ) (w w' : Buffers) (a : Answer) → Meets c → lane < c .active → writeLengths w ≡ writeLengths (c .before)
+    → columnsOf (lanesOf c) w lane ≡ columnsOf (lanesOf c) (c .before) lane
+    → LaneMeets (withBuffers c w w' a) lane → columnsOf (lanesOf c) w' lane ≡ columnsOf (lanesOf c) (c .after) lane

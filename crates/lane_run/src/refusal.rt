@@ -4,15 +4,24 @@ use block::ReadLengths;
 use block::WriteLengths;
 use block::refused;
 ghost use mathlib.Core.Path.{_≡_};
-ghost use Rattle.lane_run.specs.LaneCall.{laneRefusal};
+ghost use Rattle.lane_run.specs.Either.{eitherRefusal};
 
-// The block run's number for a lane that is active. One that isn't is line 3, which only lines 1 and 2 come
-// before.
-pub fn refused_lane(call: CallNumbers, lane: u32, reads: ReadLengths, writes: WriteLengths) -> u32
-    ensures { λ r. ⌜ r ≡ laneRefusal lane call reads writes ⌝ }
+// The block run's number, and so that of an active lane. A lane that isn't active is line 3, which only lines
+// 1 and 2 come before.
+pub fn refused_either(
+    one: bool,
+    lane: u32,
+    call: CallNumbers,
+    reads: ReadLengths,
+    writes: WriteLengths,
+) -> u32
+    ensures { λ r. ⌜ r ≡ eitherRefusal one lane call reads writes ⌝ }
 {
     let active = call.active;
     let number = refused(call, reads, writes);
+    if !one {
+        return number;
+    }
     if lane < active {
         return number;
     }

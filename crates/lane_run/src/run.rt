@@ -1,5 +1,5 @@
 // The run of one lane.
-use crate::refusal::refused_lane;
+use crate::refusal::refused_either;
 use block::call_numbers;
 use block::read_lengths;
 use block::run_lanes;
@@ -44,9 +44,10 @@ pub fn lane_run(
         (buffers (now (output .entry)) (now (work .entry)) (now (pairs .entry)) (now (fm .entry)) (now (last .entry)) (now (dec .entry)))
         (buffers (now (output .exit)) (now (work .exit)) (now (pairs .exit)) (now (fm .exit)) (now (last .exit)) (now (dec .exit))) a) lane ⌝ }
 {
-    let number = refused_lane(
-        call_numbers(b, r, active),
+    let number = refused_either(
+        true,
         lane,
+        call_numbers(b, r, active),
         read_lengths(
             base0,
             base1,

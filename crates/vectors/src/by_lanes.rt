@@ -75,7 +75,7 @@ fn alike(a: Answer, b: Answer) -> Answer {
     }
 }
 
-// A call for each of the first `calls` lanes, the last one first. There is one.
+// A call for each of the first `calls` lanes, the last one first.
 pub fn lanes_run(
     b: BlockSettings,
     i: Inputs,

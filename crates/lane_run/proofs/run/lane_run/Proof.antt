@@ -24,7 +24,7 @@ numbered c = c .before
 abbrev measured : tie.After-write-lengths → tie.After-read-lengths
 measured c = c .before .before .before .before .before .before .before
 
-abbrev gathered : tie.After-refused-lane → tie.After-write-lengths
+abbrev gathered : tie.After-refused-either → tie.After-write-lengths
 gathered c = c .before
 
 abbrev tested : tie.After-run-lanes-arg6 → tie.Else1
@@ -36,7 +36,7 @@ lends c = c .before
 abbrev ran : tie.After-slice-known12 → tie.After-run-lanes
 ran c = c .before .before .before .before .before .before .before .before .before .before .before .before
 
-abbrev entry : tie.After-refused-lane → tie.Start
+abbrev entry : tie.After-refused-either → tie.Start
 entry c = start (numbered (measured (gathered c)))
 
 -- ---- the test
@@ -55,11 +55,11 @@ number c =
     let a = c .args in
     laneRefusal (a .lane) (callNumbers (a .b) (a .r) (a .active)) (readLengths 36 13 (reads c)) (writeLengths (writes c))
 
-by-table : (c : tie.After-refused-lane) → c .refused-lane .result ≡ number (entry c)
+by-table : (c : tie.After-refused-either) → c .refused-either .result ≡ number (entry c)
 by-table c =
     let w = gathered c in
     let r = measured w in
-    by-parts (laneRefusal (entry c .args .lane)) (numbered r .call-numbers .ensures) (r .read-lengths .ensures) (w .write-lengths .ensures) (c .refused-lane .ensures)
+    by-parts (laneRefusal (entry c .args .lane)) (numbered r .call-numbers .ensures) (r .read-lengths .ensures) (w .write-lengths .ensures) (c .refused-either .ensures)
 
 none : (c : tie.Else1) → number (entry (c .before)) ≡ 0
 none c = sym (by-table (c .before)) ∙ c .if1 .left

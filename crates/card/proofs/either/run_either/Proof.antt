@@ -1,6 +1,6 @@
--- `lane::shaper_lane_run` meets its contract: one test, and what is accepted is run. Assumes nothing.
+-- `either::run_either` meets its contract: one test, and what is accepted is run. Assumes nothing.
 use mathlib.Core.Path.{_≡_, refl, sym, _∙_}
-use Prim.Native.Nat.{ℕ, _+_}
+use Prim.Native.Nat.{ℕ}
 use native.Mathlib.Omega.{arith}
 use borrow.Author.Needs.{needs}
 use lib.ListN.{length}
@@ -15,10 +15,11 @@ use Rattle.block.specs.declared.refusal.ReadLengths.{ReadLengths}
 use Rattle.block.specs.Call.{callNumbers, readLengths, writeLengths, Taken}
 use Rattle.block.specs.Numbers.{settingsOf, rangeOf}
 use Rattle.block.proofs.RefusalLaws.{passed, by-parts, whole-slices}
-use Rattle.lane_run.specs.LaneCall.{laneRefusal}
-use Rattle.lane_run.proofs.LaneLaws.{lane-passed, lane-taken, lane-refused, lane-shared}
-use Rattle.card.proofs.lane.shaper_lane_run.Statement.{statement}
-use Rattle.card.proofs.lane.shaper_lane_run.Tie as tie
+use Rattle.block.proofs.SharedLaws.{shared-by}
+use Rattle.lane_run.specs.Either.{eitherRefusal}
+use Rattle.lane_run.proofs.LaneLaws.{either-passed, either-active, either-taken, either-refused, either-shared, taken-by, shared-at}
+use Rattle.card.proofs.either.run_either.Statement.{statement}
+use Rattle.card.proofs.either.run_either.Tie as tie
 
 -- ---- the places on the way: from each call back to the one before, and from the first to the entry
 
@@ -28,19 +29,25 @@ start c = c .before .before .before .before .before .before .before .before .bef
 abbrev measured : tie.After-write-lengths → tie.After-read-lengths
 measured c = c .before .before .before .before .before .before .before
 
-abbrev gathered : tie.After-refused-lane → tie.After-write-lengths
+abbrev gathered : tie.After-refused-either → tie.After-write-lengths
 gathered c = c .before
 
-abbrev tested : tie.After-run-numbers-arg6 → tie.Else1
-tested c = c .before .before .before .before .before .before
+abbrev tested : tie.After-settings-of → tie.Else1
+tested c = c .before
 
-abbrev lends : tie.After-run-numbers → tie.After-run-numbers-arg6
-lends c = c .before
+abbrev settled : tie.After-interval-of → tie.After-settings-of
+settled c = c .before
 
-abbrev ran : tie.After-slice-known12 → tie.After-run-numbers
+abbrev lends : tie.After-run-lanes-arg6 → tie.After-interval-of
+lends c = c .before .before .before .before .before .before
+
+abbrev called : tie.After-run-lanes → tie.After-run-lanes-arg6
+called c = c .before
+
+abbrev ran : tie.After-slice-known12 → tie.After-run-lanes
 ran c = c .before .before .before .before .before .before .before .before .before .before .before .before
 
-abbrev entry : tie.After-refused-lane → tie.Start
+abbrev entry : tie.After-refused-either → tie.Start
 entry c = start (measured (gathered c))
 
 -- ---- the test
@@ -69,14 +76,14 @@ abbrev lengths : tie.Start → ReadLengths
 lengths c = readLengths (length (c .args .coefs .now)) (length (c .args .numbers .now)) (reads c)
 
 abbrev number : tie.Start → ℕ
-number c = laneRefusal (c .args .lane) (numbers c) (lengths c) (writeLengths (writes c))
+number c = eitherRefusal (c .args .one) (c .args .lane) (numbers c) (lengths c) (writeLengths (writes c))
 
 -- the settings have the numbers that came one by one
-by-table : (c : tie.After-refused-lane) → c .refused-lane .result ≡ number (entry c)
+by-table : (c : tie.After-refused-either) → c .refused-either .result ≡ number (entry c)
 unfolding settingsOf designsOf
 by-table c =
     let w = gathered c in
-    by-parts (laneRefusal (entry c .args .lane)) refl (measured w .read-lengths .ensures) (w .write-lengths .ensures) (c .refused-lane .ensures)
+    by-parts (eitherRefusal (entry c .args .one) (entry c .args .lane)) refl (measured w .read-lengths .ensures) (w .write-lengths .ensures) (c .refused-either .ensures)
 
 none : (c : tie.Else1) → number (entry (c .before)) ≡ 0
 none c = sym (by-table (c .before)) ∙ c .if1 .left
@@ -84,38 +91,43 @@ none c = sym (by-table (c .before)) ∙ c .if1 .left
 returns : tie.Need-returns
 returns c =
     let o = entry (c .before) in
-    lane-refused (settings o) (range o) (o .args .active) (o .args .lane) (length (o .args .coefs .now)) (length (o .args .numbers .now)) (reads o) (writes o) _
+    either-refused (settings o) (range o) (o .args .active) (o .args .lane) (length (o .args .coefs .now)) (length (o .args .numbers .now)) (reads o) (writes o) (o .args .one) _
     (by-table (c .before)) (c .if1 .taken)
 
 -- ---- the run
 
-taken : (c : tie.Else1) → let o = entry (c .before) in Taken (settings o) (range o) (o .args .lane + 1) (reads o) (writes o)
-taken c =
+settings-of-requires : tie.Need-settings-of-requires
+settings-of-requires c κs =
     let o = entry (c .before) in
-    lane-taken (settings o) (range o) (o .args .active) (o .args .lane) (length (o .args .coefs .now)) (length (o .args .numbers .now)) (reads o) (writes o) (none c)
+    whole-slices (numbers o) (lengths o) (passed (numbers o) (lengths o) _ (either-passed (numbers o) (o .args .lane) _ _ (o .args .one) (none c)) .read)
 
--- the lane is below 64
-add-run-numbers : tie.Need-add-run-numbers
-unfolding settingsOf
-add-run-numbers c = let t = taken c in omega (arith, t .actives, t .limits .lanes)
-
-run-numbers-requires : tie.Need-run-numbers-requires
-run-numbers-requires c κs =
+interval-of-requires : tie.Need-interval-of-requires
+interval-of-requires c κs =
     let e = tested c in
     let o = entry (e .before) in
-    let slices = whole-slices (numbers o) (lengths o) (passed (numbers o) (lengths o) _ (lane-passed (numbers o) (o .args .lane) _ _ (none e)) .read) in
-    (slices .0, (slices .1, (omega arith, taken e)))
+    either-active (settings o) (range o) (o .args .active) (o .args .lane) (length (o .args .coefs .now)) (length (o .args .numbers .now)) (reads o) (writes o) (o .args .one) (none e)
+
+run-lanes-requires : tie.Need-run-lanes-requires
+run-lanes-requires c κs =
+    let i = lends c in
+    let s = settled i in
+    let e = tested s in
+    let o = entry (e .before) in
+    taken-by (s .settings-of .ensures) (i .interval-of .ensures)
+    (either-taken (settings o) (range o) (o .args .active) (o .args .lane) (length (o .args .coefs .now)) (length (o .args .numbers .now)) (reads o) (writes o) (o .args .one) (none e))
 
 returns-2 : tie.Need-returns-2
 returns-2 c =
     let did = ran c in
-    let e = tested (lends did) in
+    let i = lends (called did) in
+    let s = settled i in
+    let e = tested s in
     let o = entry (e .before) in
-    lane-shared (settings o) (range o) (o .args .active) (o .args .lane) (length (o .args .coefs .now)) (length (o .args .numbers .now)) (reads o) (writes o) (none e)
-    (did .run-numbers .ensures)
+    either-shared (settings o) (range o) (o .args .active) (o .args .lane) (length (o .args .coefs .now)) (length (o .args .numbers .now)) (reads o) (writes o) (o .args .one) (none e)
+    (shared-at (i .interval-of .ensures) (shared-by (s .settings-of .ensures) (did .run-lanes .ensures)))
 
-pub shaper-lane-run-spec : {M : Type 1} → statement M
-shaper-lane-run-spec =
+pub run-either-spec : {M : Type 1} → statement M
+run-either-spec =
     tie.close
     (tie.spec
     (λ c κs. search needs)
@@ -128,12 +140,13 @@ shaper-lane-run-spec =
     (λ c. search needs)
     (λ c. search needs)
     returns
-    add-run-numbers
-    run-numbers-requires
-    (λ c. ran c .run-numbers .ensures .sizes .output)
-    (λ c. ran c .run-numbers .ensures .sizes .work)
-    (λ c. ran c .run-numbers .ensures .sizes .pairs)
-    (λ c. ran c .run-numbers .ensures .sizes .fm)
-    (λ c. ran c .run-numbers .ensures .sizes .last)
-    (λ c. ran c .run-numbers .ensures .sizes .dec)
+    settings-of-requires
+    interval-of-requires
+    run-lanes-requires
+    (λ c. ran c .run-lanes .ensures .sizes .output)
+    (λ c. ran c .run-lanes .ensures .sizes .work)
+    (λ c. ran c .run-lanes .ensures .sizes .pairs)
+    (λ c. ran c .run-lanes .ensures .sizes .fm)
+    (λ c. ran c .run-lanes .ensures .sizes .last)
+    (λ c. ran c .run-lanes .ensures .sizes .dec)
     returns-2)
