@@ -13,9 +13,7 @@ struct slot {
 /* A number from 0 to `most`. Whether the word is one. */
 static int take_number(const char *word, float most, float *number)
 {
-    char *end;
-    *number = strtof(word, &end);
-    return end != word && *end == '\0' && *number >= 0.0f && *number <= most;
+    return take_float(word, number) && *number >= 0.0f && *number <= most;
 }
 
 /* Mode, amount in percent and character. The first word that is not what belongs there, or NULL. */

@@ -82,6 +82,7 @@ enum shaper_mode {
 #define SHAPER_FILE_LIMIT 65536 /* a patch file's bytes are 0 to this */
 #define SHAPER_RECORD_BYTES 14  /* a patch file's record, with the two bytes of its length */
 #define SHAPER_PATCH_BYTES 28   /* what shaper_patch_write writes: a record for each slot */
+#define SHAPER_MAX_HUNDREDTHS 10000 /* amounts in hundredths of a percent are 0 to this */
 
 /* How many numbers a buffer has at least, by the buffer's name: an array's size where the arguments are constant. Those
  * with arguments are of type size_t, and work each argument out once. */
@@ -114,7 +115,8 @@ enum shaper_mode {
 /* Why a call is turned down: by the first of these lines that holds, for the arguments that it has. */
 enum shaper_refusal {
     SHAPER_ACCEPTED = 0,
-    SHAPER_BAD_MODE = 1,   /* a mode is above 69 (of a patch file it is SHAPER_BAD_FIELD) */
+    SHAPER_BAD_MODE = 1,   /* a mode is above 69 (of a patch file it is SHAPER_BAD_FIELD) or, where an amount is looked
+                            * for, no distortion */
     SHAPER_BAD_FACTOR = 2, /* the factor is not 1, 2, 4 or 8 */
     SHAPER_BAD_LANES = 3,  /* the lane count is not 1..64, the active lanes are more, or a single lane is not active */
     SHAPER_BAD_FRAMES = 4, /* a block above 4,096 frames, a range past its end, a single frame outside its range, or a
@@ -128,7 +130,10 @@ enum shaper_refusal {
     SHAPER_BAD_LENGTH = 9, /* the file is above 65,536 bytes (tested before all records); a record is cut short, or its
                             * length is below 2 or wrong for a known kind */
     SHAPER_BAD_KIND = 10,  /* a record's kind is not known */
-    SHAPER_BAD_FIELD = 11  /* a slot above 1, a mode above 69, hundredths or ten-thousandths above 10,000 */
+    SHAPER_BAD_FIELD = 11, /* a slot above 1, a mode above 69, hundredths or ten-thousandths above 10,000 */
+
+    /* A search, after 1 and 7. */
+    SHAPER_NO_AMOUNT = 12 /* no amount gives the level */
 };
 
 /* What a call answers: SHAPER_ACCEPTED and its frames, or its refusal's number and no frames, and then every buffer is
@@ -425,6 +430,44 @@ struct shaper_written shaper_patch_write(
  *
  *   a, b  read, as in shaper_patch_read; they may be the same buffer */
 struct shaper_same shaper_patch_same(const uint8_t *a, size_t a_length, const uint8_t *b, size_t b_length);
+
+/* What a search answers: SHAPER_ACCEPTED and the amount, or its refusal's number and 0. */
+struct shaper_found {
+    uint32_t number;
+    uint32_t hundredths; /* of a percent, 0 to SHAPER_MAX_HUNDREDTHS */
+};
+
+/* Finds the amount that gives a level: the least one at which a distortion's curve makes of `sample` an output within
+ * `tolerance` of `wanted`.
+ *
+ *   mode       a distortion, SHAPER_VALVE to SHAPER_SOFT_SATURATE
+ *   sample     what the curve is given, before its drive
+ *   wanted     the output that is looked for
+ *   tolerance  how far from it the output may lie; just as far is within. With 0 or -0 the output must be equal, zeros
+ *              of either sign being equal; below 0, or NaN, nothing is within
+ *   numbers    read, at least SHAPER_NUMBERS, as in shaper_block_run, whatever the mode
+ *
+ * Amounts from 0 to SHAPER_MAX_HUNDREDTHS hundredths of a percent are tried one after another, up to the first that
+ * serves, since a curve may come near the level, leave it and come back. An amount is the card's own: hundredths / 100,
+ * as a patch file gives it, kept to 0..100 and times 0.01, as a block run takes it. As a slot's base it is
+ * (float)hundredths / 100.0f.
+ *
+ * The curve is that of a single sample. shaper_preview draws it, but divides the percent by 100: some amounts then
+ * differ in their last digit, and what is drawn of them by up to 1e-5 of the drive, in a fold by up to 1e-4, so that a
+ * level found with a smaller tolerance may be drawn outside of it. A block run takes the curve's mean from one sample
+ * to the next: the same at factor 1, from the second of equal samples on, where they are of ordinary size; at higher
+ * factors the decimation rounds once more, by about 1e-6.
+ *
+ * How far an output lies from `wanted` is their difference as a float, without its sign. No amount counts where that is
+ * NaN: none at all if `wanted` is NaN, and none whose output is NaN or the very infinity that is wanted. An infinite
+ * tolerance takes every other distance, infinite ones too.
+ *
+ * Turned down by SHAPER_BAD_MODE, also for a mode that is no distortion, SHAPER_SHORT_READ or SHAPER_NO_AMOUNT, tested
+ * in this order. The last comes after all 10,001 amounts: up to some hundreds of microseconds on a desktop processor,
+ * some milliseconds where `sample` is subnormal. It is a call for a panel or an editor, which may make it while blocks
+ * run, and not for each sample. */
+struct shaper_found shaper_amount_for(
+    uint32_t mode, float sample, float wanted, float tolerance, const float *numbers, size_t numbers_length);
 
 /* The card's three designs: their coefficients as `coefs` takes them, and their counts. */
 static const float shaper_card_coefs[SHAPER_COEFS] = {

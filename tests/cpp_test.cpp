@@ -93,6 +93,19 @@ static void check_files()
         "the same patch");
 }
 
+static shaper_found find(uint32_t mode, float wanted)
+{
+    return shaper_amount_for(mode, 0.5f, wanted, 0.0f, shaper_numbers, SHAPER_NUMBERS);
+}
+
+static void check_level()
+{
+    const shaper_found clip = find(SHAPER_HARD_CLIP, 1.0f), above = find(SHAPER_HARD_CLIP, 2.0f);
+    check(clip.number == SHAPER_ACCEPTED && clip.hundredths == 2007, "the amount that gives a level");
+    check(above.number == SHAPER_NO_AMOUNT && above.hundredths == 0 && find(SHAPER_OFF, 0.5f).number == SHAPER_BAD_MODE,
+        "a level turned down");
+}
+
 /* Off in both slots reads the cycle and decimates it. */
 int main()
 {
@@ -124,5 +137,6 @@ int main()
     check_picture();
     check_names();
     check_files();
+    check_level();
     return finish();
 }

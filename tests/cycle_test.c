@@ -3,6 +3,7 @@
  * many checks pass, "P of T". */
 #define _DEFAULT_SOURCE /* MAP_ANONYMOUS */
 #include "cycle_model.h"
+#include "draws.h"
 #include "shaper_block.h"
 
 #include <math.h>
@@ -32,14 +33,6 @@ enum { PLAIN, UNWEIGHTED, LEVEL, POINT, WEIGHTED };
 static float cycle[SHAPER_CYCLE];
 static const struct shaper_readable lent_cycle = {cycle, SHAPER_CYCLE};
 
-static uint32_t seed = 0x5eed;
-
-static uint32_t drawn(uint32_t below)
-{
-    seed = seed * 1664525u + 1013904223u;
-    return (uint32_t)((uint64_t)seed * below >> 32);
-}
-
 /* Any word, and as often one whose fraction is the least or the largest or whose entry is the last. */
 static uint32_t drawn_word(void)
 {
@@ -50,11 +43,6 @@ static uint32_t drawn_word(void)
     case 2: return any | (uint32_t)LAST << 21;
     default: return any;
     }
-}
-
-static float tame(void)
-{
-    return (float)drawn(1u << 24) / 8388608.0f - 1.0f;
 }
 
 /* Any float, so that neighbours differ much in size. */

@@ -5,6 +5,7 @@
 #define _DEFAULT_SOURCE /* MAP_ANONYMOUS */
 #include "boundary.h"
 #include "cycle_model.h"
+#include "draws.h"
 #include "shaper_block.h"
 
 #include <math.h>
@@ -16,14 +17,6 @@
 #define VALGRIND_MAKE_MEM_NOACCESS(cells, bytes) ((void)(cells), (void)(bytes))
 #define VALGRIND_MAKE_MEM_DEFINED(cells, bytes) ((void)(cells), (void)(bytes))
 #endif
-
-static uint32_t seed = 0x5eed;
-
-static uint32_t drawn(uint32_t below)
-{
-    seed = seed * 1664525u + 1013904223u;
-    return (uint32_t)((uint64_t)seed * below >> 32);
-}
 
 /* Infinities, NaN and a number near the largest, in the last active lane's column of one buffer; BUFFER_END is none. A
  * table has no columns, and all lanes may read them there. */

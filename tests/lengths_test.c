@@ -131,6 +131,15 @@ static void check_pictures(void)
     check(answered(preview(SHAPER_POINTS + 1, 0, 0, 0), SHAPER_BAD_FRAMES, 0), "a point too many and no table");
 }
 
+/* Rectify makes 1 of -1 at the last amount alone. */
+static void check_level(void)
+{
+    struct shaper_found f = shaper_amount_for(SHAPER_RECTIFY, -1.0f, 1.0f, 0.0f, numbers, SHAPER_NUMBERS);
+    check(f.number == SHAPER_ACCEPTED && f.hundredths == SHAPER_MAX_HUNDREDTHS, "the last amount");
+    f = shaper_amount_for(SHAPER_RECTIFY, -1.0f, 1.0f, 0.0f, numbers, SHAPER_NUMBERS - 1);
+    check(f.number == SHAPER_SHORT_READ && f.hundredths == 0, "a sine's number too few for a level");
+}
+
 static void check_sizes(struct sizes n)
 {
     check_block(n);
@@ -224,6 +233,7 @@ int main(void)
     check_drawn(1000);
     check_limits();
     check_pictures();
+    check_level();
     check_once();
     return finish();
 }

@@ -1,12 +1,11 @@
 /* Pictures by a model for preview_test.c: `preview` of the Rust's mod.rs and what it needs of phase.rs, wave.rs and
- * lanes.rs, with the rules of docs/DIFFERENCES.md, for some of the modes (`is_modelled`). Every operation is one of a
- * float's, rounded by itself, as C has it where no multiply-add is fused. */
+ * lanes.rs, with the rules of docs/DIFFERENCES.md, for all modes but ten of the phase stage (`is_modelled`). Every
+ * operation is one of a float's, rounded by itself, as C has it where no multiply-add is fused. */
 #ifndef PICTURE_MODEL_H
 #define PICTURE_MODEL_H
 
 #include "cycle_model.h"
-
-#include <math.h>
+#include "distortion_model.h"
 
 struct slot {
     uint32_t mode;
@@ -27,8 +26,9 @@ struct reads {
 };
 
 static const uint32_t modelled[] = {SHAPER_OFF, SHAPER_SYNC, SHAPER_PULSE_WIDTH, SHAPER_FLIP, SHAPER_REMAP_DRAWN,
-    SHAPER_REMAP_SINE, SHAPER_ODD_EVEN, SHAPER_LOW_PASS, SHAPER_HIGH_PASS, SHAPER_SOFT_CLIP, SHAPER_HARD_CLIP,
-    SHAPER_FOLD, SHAPER_ZERO_SQUARE, SHAPER_RECTIFY, SHAPER_TAPE, SHAPER_SOFT_SATURATE};
+    SHAPER_REMAP_SINE, SHAPER_ODD_EVEN, SHAPER_LOW_PASS, SHAPER_HIGH_PASS, SHAPER_VALVE, SHAPER_SOFT_CLIP,
+    SHAPER_HARD_CLIP, SHAPER_DIODE1, SHAPER_DIODE2, SHAPER_FOLD, SHAPER_SINE_FOLD, SHAPER_ZERO_SQUARE,
+    SHAPER_ASYMMETRIC, SHAPER_RECTIFY, SHAPER_SINE_SHAPER, SHAPER_PEDAL, SHAPER_TAPE, SHAPER_SOFT_SATURATE};
 
 static int is_modelled(uint32_t mode)
 {
@@ -36,52 +36,6 @@ static int is_modelled(uint32_t mode)
         if (mode == modelled[i])
             return 1;
     return mode >= SHAPER_FM1 && mode < SHAPER_MODES;
-}
-
-/* The first stays at a tie or a NaN. */
-static float smaller(float x, float y)
-{
-    return y < x ? y : x;
-}
-
-static float larger(float x, float y)
-{
-    return y > x ? y : x;
-}
-
-static float kept(float x, float least, float most)
-{
-    return smaller(larger(x, least), most);
-}
-
-/* An entry of the table of powers: no 2^(23 + k / 256) but a whole one is so near to a whole number that a double would
- * mistake its floor. */
-static uint64_t entry(uint32_t k)
-{
-    return (uint64_t)floor(exp2(23.0 + k / 256.0));
-}
-
-static float power(float x)
-{
-    if (isnan(x))
-        return x;
-    if (x >= 128.0f)
-        return INFINITY;
-    if (x < -126.0f)
-        return 0.0f;
-    const uint32_t n = (uint32_t)(floor((double)x * 65536.0) + 128.0 * 65536.0), j = n / 256 % 256, r = n % 256;
-    const uint64_t m = (entry(j) * (256 - r) + entry(j + 1) * r) / 256;
-    return (float)ldexp((double)m, (int)(n / 65536) - 128 - 23);
-}
-
-static float sine(const float *numbers, float t)
-{
-    const float wrapped = t - floorf(t + 0.5f), a = fabsf(wrapped);
-    const float x = smaller(a, 0.5f - a) * 6.2831855f, x2 = x * x;
-    float p = numbers[4];
-    for (int i = 3; i >= 0; i--)
-        p = p * x2 + numbers[i];
-    return p * x * (signbit(wrapped) ? -1.0f : 1.0f);
 }
 
 static float tangent(const float *numbers, float x)
@@ -249,22 +203,6 @@ static void filter(const struct panel *p, const struct slot *s, float a, float *
         }
 }
 
-static float distorted(uint32_t mode, float a, float x)
-{
-    const float driven = x * power(a * ((mode == SHAPER_FOLD ? 18.0f : 30.0f) / 6.0206f));
-    const float t = (driven + 1.0f) * 0.25f, z = kept(driven, -1.5f, 1.5f);
-    switch (mode) {
-    case SHAPER_RECTIFY: return (fabsf(x) - x) * a + x;
-    case SHAPER_SOFT_CLIP: return z - z * z * z * (4.0f / 27.0f);
-    case SHAPER_HARD_CLIP: return kept(driven, -1.0f, 1.0f);
-    case SHAPER_FOLD: return 1.0f - fabsf(4.0f * (t - floorf(t)) - 2.0f);
-    case SHAPER_ZERO_SQUARE: return kept(driven * fabsf(driven), -1.0f, 1.0f);
-    case SHAPER_TAPE: return driven / sqrtf(driven * driven + 1.0f);
-    case SHAPER_SOFT_SATURATE: return driven / (1.0f + fabsf(driven));
-    default: return x;
-    }
-}
-
 /* The reads of slot 1 and then slot 0, added up in order; then slot 0 and slot 1 of the wave stage. */
 static void model(const struct panel *p, float *picture, uint32_t points)
 {
@@ -283,7 +221,7 @@ static void model(const struct panel *p, float *picture, uint32_t points)
             filter(p, &s[k], a[k], picture, points);
         else
             for (uint32_t i = 0; i < points; i++)
-                picture[i] = distorted(s[k].mode, a[k], picture[i]);
+                picture[i] = distorted(p->numbers, s[k].mode, a[k], picture[i]);
     }
 }
 

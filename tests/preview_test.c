@@ -1,6 +1,7 @@
-/* The picture on the panel (shaper_preview): its values, a model for some of the modes, the slots' order, silent
+/* The picture on the panel (shaper_preview): its values, a model for most of the modes, the slots' order, silent
  * sources, what is written and what is not, refusals, and all pairs of modes. Prints how many checks pass, "P of T". */
 #define _DEFAULT_SOURCE /* MAP_ANONYMOUS */
+#include "draws.h"
 #include "picture_model.h"
 
 #include <stdlib.h>
@@ -14,20 +15,6 @@ static float plain[SHAPER_CURVE], curve[SHAPER_CURVE], cycle[SHAPER_CYCLE];
 /* A picture and the cells about it. */
 static float cells[CELLS];
 static float *const picture = cells + GUARD;
-
-static uint32_t seed = 0x5eed;
-
-static uint32_t drawn(uint32_t below)
-{
-    seed = seed * 1664525u + 1013904223u;
-    return (uint32_t)((uint64_t)seed * below >> 32);
-}
-
-/* A fraction with either sign. */
-static float tame(void)
-{
-    return (float)drawn(1u << 24) / 8388608.0f - 1.0f;
-}
 
 /* Any float, and more often than by chance one that is special. */
 static float wild(void)

@@ -2,6 +2,7 @@
 
 use programs::decimations::Shape;
 use programs::files;
+use programs::levels::Search;
 use programs::pictures::Picture;
 use programs::singles::{Call, Slices};
 
@@ -75,7 +76,23 @@ pub struct Same {
     pub same: u32,
 }
 
+/// A refusal's number and 0, or 0 and the amount in hundredths of a percent.
+#[repr(C)]
+#[derive(Clone, Copy, Debug)]
+pub struct Found {
+    pub number: u32,
+    pub hundredths: u32,
+}
+
 unsafe extern "C" {
+    fn shaper_amount_for(
+        mode: u32,
+        sample: f32,
+        wanted: f32,
+        tolerance: f32,
+        numbers: *const f32,
+        numbers_len: usize,
+    ) -> Found;
     fn shaper_patch_read(file: *const u8, file_len: usize) -> Patch;
     fn shaper_patch_write(
         mode0: u32,
@@ -233,6 +250,13 @@ pub fn patch_write(patch: &files::Patch, file: &mut [u8]) -> Written {
 pub fn patch_same(a: &[u8], b: &[u8]) -> Same {
     // SAFETY: the pointers and counts are the slices', of which none is written.
     unsafe { shaper_patch_same(a.as_ptr(), a.len(), b.as_ptr(), b.len()) }
+}
+
+/// The least amount at which a mode gives the wanted output.
+pub fn amount_for(search: &Search, numbers: &[f32]) -> Found {
+    let &Search { mode, sample, wanted, tolerance } = search;
+    // SAFETY: the pointer and count are the slice's.
+    unsafe { shaper_amount_for(mode, sample, wanted, tolerance, numbers.as_ptr(), numbers.len()) }
 }
 
 /// The decimation of `buffer` in place.

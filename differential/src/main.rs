@@ -9,6 +9,7 @@ mod files;
 mod guards;
 mod leaves;
 mod lending;
+mod levels;
 mod long;
 mod phases;
 mod pictures;
@@ -25,12 +26,13 @@ use tally::{Part, Tally};
 const USAGE: &str = "usage: differential quick
        differential long MINUTES [SEED]
        differential COMPARISON COUNT [SEED]
-         leaves, cycle, phases, waves, decimate, singles, blocks, plans, pictures, files or largest
-       differential speed [leaves | lists | shapes | decimations | pictures | files | pairs | modes | ranges | lanes]
-                          [rows]
+         leaves, cycle, phases, waves, decimate, singles, blocks, plans, pictures, files, levels or largest
+       differential speed [leaves | lists | shapes | decimations | pictures | files | levels | pairs | modes | ranges |
+                           lanes] [rows]
          all of it, or one table: leaves of lanes.rs, sums of read lists, slots of the wave stage, decimations,
-         pictures, patch files; block runs of pairs of modes, of each mode alone, and of the pairs by lanes and by the
-         frames of a call, of which `rows` prints every row; ranges by their lanes one by one";
+         pictures, patch files, searches for an amount; block runs of pairs of modes, of each mode alone, and of the
+         pairs by lanes and by the frames of a call, of which `rows` prints every row; ranges by their lanes one by
+         one";
 
 struct Comparison {
     name: &'static str,
@@ -43,10 +45,10 @@ struct Comparison {
 
 /// Spans are in singles, blocks and largest; read lists in phases and singles; samples in waves and singles;
 /// state in waves, decimate, singles, blocks and largest; decimated buffers in decimate; whole blocks in
-/// blocks and largest, by one call and lane by lane; refusals in decimate, singles, blocks, plans, pictures and
-/// files; cuts, demand 3 by brute force, in blocks; what a block needs in plans; drawn cycles in pictures;
-/// patches in files. The reading of the cycle has words of its own in cycle.
-const COMPARISONS: [Comparison; 11] = [
+/// blocks and largest, by one call and lane by lane; refusals in decimate, singles, blocks, plans, pictures, files
+/// and levels; cuts, demand 3 by brute force, in blocks; what a block needs in plans; drawn cycles in pictures;
+/// patches in files; amounts that give a level in levels. The reading of the cycle has words of its own in cycle.
+const COMPARISONS: [Comparison; 12] = [
     Comparison { name: "leaves", parts: leaves::PARTS, quick: 200_000, round: 1_000_000 },
     Comparison { name: "cycle", parts: cycle::PARTS, quick: 1_000, round: 2_000 },
     Comparison { name: "phases", parts: phases::PARTS, quick: 400_000, round: 1_600_000 },
@@ -57,6 +59,7 @@ const COMPARISONS: [Comparison; 11] = [
     Comparison { name: "plans", parts: plans::PARTS, quick: 4_900, round: 4_900 },
     Comparison { name: "pictures", parts: pictures::PARTS, quick: 4_900, round: 9_800 },
     Comparison { name: "files", parts: files::PARTS, quick: 100_000, round: 100_000 },
+    Comparison { name: "levels", parts: levels::PARTS, quick: 4_000, round: 4_000 },
     Comparison { name: "largest", parts: blocks::LARGEST, quick: 0, round: 4 },
 ];
 

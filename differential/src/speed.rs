@@ -7,6 +7,7 @@ mod decimations;
 mod files;
 mod lanes;
 mod leaves;
+mod levels;
 mod lists;
 mod markdown;
 mod modes;
@@ -17,13 +18,14 @@ mod shapes;
 mod summary;
 
 /// The parts by their names; those that sum rows up print every one of them on demand.
-const PARTS: [(&str, fn(bool)); 10] = [
+const PARTS: [(&str, fn(bool)); 11] = [
     ("leaves", |_| leaves::print()),
     ("lists", |_| lists::print()),
     ("shapes", |_| shapes::print()),
     ("decimations", |_| decimations::print()),
     ("pictures", |_| pictures::print()),
     ("files", |_| files::print()),
+    ("levels", |_| levels::print()),
     ("pairs", pairs::print),
     ("modes", modes::print),
     ("ranges", ranges::print),

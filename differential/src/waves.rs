@@ -62,7 +62,7 @@ fn edge(draw: u32) -> f32 {
 }
 
 /// Any kind of float, every fourth time an edge.
-fn any(g: &mut Generator) -> f32 {
+pub fn any(g: &mut Generator) -> f32 {
     let how = g.draw();
     if how >> 30 == 0 { edge(how) } else { float(g) }
 }

@@ -3,6 +3,7 @@
 pub mod decimation;
 pub mod either;
 pub mod lane;
+pub mod level;
 pub mod patches;
 pub mod picture;
 pub mod planning;

@@ -5,6 +5,7 @@ pub mod Patterns
 pub mod Sums
 pub mod Values
 pub mod Exact
+pub mod Products
 pub mod Own
 pub mod Fractions
 pub mod Entries

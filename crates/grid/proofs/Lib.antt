@@ -2,6 +2,7 @@
 pub mod Index
 pub mod FunctionLaws
 pub mod TableLaws
+pub mod RunLaws
 pub mod CellLaws
 pub mod EachLaws
 pub mod OrderLaws

@@ -2,3 +2,4 @@
 pub mod Functions
 pub mod Cells
 pub mod Lanes
+pub mod Runs

@@ -34,3 +34,7 @@ isWave wave = true
 pub data Fact (A : Type 0) : Type 0 where
   given : A → Fact A
   refused : ℕ → Fact A
+
+abbrev pub saysYes : Fact Bool → Bool
+saysYes (given flag) = flag
+saysYes (refused n) = false

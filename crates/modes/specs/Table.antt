@@ -5,7 +5,7 @@ use mathlib.Core.Option.{Option, some, none}
 use mathlib.Core.List.{List, [], _∷_, map}
 use lib.ListN.{getD}
 use Rattle.modes.specs.Mode.{Mode, numberOf, Off, Sync, PinchIn, PinchOut, Pinch, PulseWidth, LeanRight, LeanLeft, Lean, Flip, Mirror, RemapDrawn, RemapMirrored, RemapSine, RemapQuad, Quantise, OddEven, LowPass, HighPass, Valve, SoftClip, HardClip, Diode1, Diode2, Fold, SineFold, ZeroSquare, Asymmetric, Rectify, SineShaper, Pedal, Tape, SoftSaturate, Fm1, Fm2, FmNoise, FmSub, FmFilter1, FmFilter2, FmExp1, FmExp2, FmExpNoise, FmExpSub, FmExpFilter1, FmExpFilter2, FmLin1, FmLin2, FmLinNoise, FmLinSub, FmLinFilter1, FmLinFilter2, Pd1, Pd2, PdNoise, PdSub, PdFilter1, PdFilter2, PdSelf, Am1, Am2, AmNoise, AmSub, AmFilter1, AmFilter2, Rm1, Rm2, RmNoise, RmSub, RmFilter1, RmFilter2}
-use Rattle.modes.specs.Facts.{Source, FmType, Modulated, Stage, osc1, osc2, noise, sub, filter1, filter2, own, thruZero, exponential, linear, fm, phaseDistortion, am, ring, off, phase, wave, Fact, given, refused}
+use Rattle.modes.specs.Facts.{Source, FmType, Modulated, Stage, osc1, osc2, noise, sub, filter1, filter2, own, thruZero, exponential, linear, fm, phaseDistortion, am, ring, off, phase, wave, Fact, given, refused, saysYes}
 
 pub record Row : Type 0 where
   pub mode : Mode
@@ -126,3 +126,7 @@ oversampledOf = factOf (λ (r : Row). r .oversampled)
 unfoldable pub distortionOf : ℕ → Fact Bool
 unfolding modes
 distortionOf = factOf (λ (r : Row). r .distortion)
+
+-- mode.distortion(), where a number above 69 is none
+unfoldable pub isDistortion : ℕ → Bool
+isDistortion mode = saysYes (distortionOf mode)

@@ -13,5 +13,6 @@ pub use modulation::source;
 pub use shaping::FlagFact;
 pub use shaping::StageFact;
 pub use shaping::distortion;
+pub use shaping::is_distortion;
 pub use shaping::oversampled;
 pub use shaping::stage;

@@ -1,6 +1,6 @@
 // Where in the oscillator a mode acts, and how it is rendered.
 ghost use mathlib.Core.Path.{_≡_};
-ghost use Rattle.modes.specs.Table.{stageOf, oversampledOf, distortionOf};
+ghost use Rattle.modes.specs.Table.{stageOf, oversampledOf, distortionOf, isDistortion};
 ghost use Rattle.modes.specs.Says.{stageSays, flagSays};
 
 // The Rust's `Stage`, or the refusal.
@@ -49,5 +49,16 @@ pub fn distortion(mode: u32) -> FlagFact
         0..=18 | 33..=69 => FlagFact::No,
         19..=32 => FlagFact::Yes,
         _ => FlagFact::Refused,
+    }
+}
+
+// The same as a bool: a number above 69 is no distortion.
+pub fn is_distortion(mode: u32) -> bool
+    ensures { λ r. ⌜ r ≡ isDistortion mode ⌝ }
+{
+    let fact = distortion(mode);
+    match fact {
+        FlagFact::Yes => true,
+        _ => false,
     }
 }

@@ -1,50 +1,26 @@
--- Runs over a picture in place, and a filter's state over one: at the start and with one point more. Assumes nothing.
-use mathlib.Core.Path.{_≡_, refl, sym, _∙_}
+-- A picture that no slot maps, and a filter's state over one: at the start and with one point more. Assumes nothing.
+use mathlib.Core.Path.{_≡_, refl, _∙_}
 use mathlib.Core.Bool.{false}
 use mathlib.Core.List.{List}
-use Prim.Native.Nat.{ℕ, _+_, _<_, _≤_}
-use native.Mathlib.Decide.{ℕ-discrete}
+use Prim.Native.Nat.{ℕ, _+_}
 use native.Mathlib.Numerals.{add-one}
-use native.Mathlib.Omega.{arith}
-use lib.ListN.{length, getD, set, length-set}
-use lib.Seq.{getD-set-same, getD-set-other, ext-getD}
+use lib.ListN.{length, getD}
 use lib.Ieee.{Float, nan}
-use Rattle.grid.specs.Functions.{table}
-use Rattle.grid.proofs.TableLaws.{length-table, getD-table}
 use Rattle.wave.specs.declared.filters.Svf.{Svf}
 use Rattle.wave.specs.declared.filters.Filtered.{Filtered}
 use Rattle.lanes.specs.declared.maths.Numbers.{Numbers}
 use Rattle.phase.specs.declared.map.Slot.{Slot}
 use Rattle.voice.specs.PhaseRun.{inPhase}
 use Rattle.preview.specs.Picture.{readOf}
-use Rattle.preview.specs.Runs.{Ran, plainAt}
+use Rattle.grid.specs.Runs.{Ran}
+use Rattle.grid.proofs.RunLaws.{ran-done}
+use Rattle.preview.specs.Runs.{plainAt}
 use Rattle.preview.proofs.PointLaws.{plain-point}
 use Rattle.preview.specs.Filtering.{passTo, settledTo, drawnAt, silent, filteredOf}
 
-pub ran-none : (answer : ℕ → Float) (xs : List Float) → Ran answer xs xs 0
-ran-none answer xs = record { long = refl; made = λ k h. absurd (omega arith); kept = λ k h. refl }
-
-pub ran-more : (answer : ℕ → Float) (before now : List Float) (i : ℕ) (v : Float) → i < length now → Ran answer before now i → v ≡ answer i → Ran answer before (set now i v) (i + 1)
-ran-more answer before now i v h r e =
-    record {
-      long = rw length-set (r .long);
-      made = λ k l. go k l (ℕ-discrete k i);
-      kept = λ k l. getD-set-other now i k v nan (λ (q : k ≡ i). omega arith) ∙ r .kept k (omega arith);
-    }
-  where
-    go : (k : ℕ) → k < i + 1 → Dec (k ≡ i) → getD (set now i v) k nan ≡ answer k
-    go k l (yes q) = rw q (getD-set-same now i v nan h ∙ e)
-    go k l (no q) = getD-set-other now i k v nan q ∙ r .made k (omega arith)
-
--- a run over all of a picture leaves nothing of it
-pub ran-done : (answer : ℕ → Float) (before after : List Float) → Ran answer before after (length before) → after ≡ table (length before) answer
-ran-done answer before after r =
-    ext-getD nan _ _ (r .long ∙ sym (length-table (length before) answer))
-    (λ i l. let low : i < length before = omega (arith, r .long) in r .made i low ∙ sym (getD-table (length before) answer i nan low))
-
 -- ---- a picture that no slot maps
 pub plain-done : (cycle before after curve : List Float) (numbers : Numbers) (slot0 : Slot) (a0 h0 : Float) (slot1 : Slot) (a1 h1 : Float)
-    → inPhase (slot0 .mode) ≡ false → inPhase (slot1 .mode) ≡ false → Ran (plainAt cycle (length before)) before after (length before)
+    → inPhase (slot0 .mode) ≡ false → inPhase (slot1 .mode) ≡ false → Ran nan (plainAt cycle (length before)) before after (length before)
     → after ≡ readOf numbers curve cycle slot0 a0 h0 slot1 a1 h1 (length before)
 unfolding readOf
 plain-done cycle before after curve numbers slot0 a0 h0 slot1 a1 h1 e0 e1 r =
@@ -78,6 +54,6 @@ module _ (step : Float → Svf → Filtered) (xs : List Float) (start : Svf) whe
   settled-more i s r h e = rw (add-one, ← h) e
 
 -- the pass that is drawn from the settled state
-pub filtered : (step : Float → Svf → Filtered) (xs ys : List Float) (s : Svf) → s ≡ settledTo step xs silent 15 → Ran (drawnAt step xs s) xs ys (length xs) → ys ≡ filteredOf step xs
+pub filtered : (step : Float → Svf → Filtered) (xs ys : List Float) (s : Svf) → s ≡ settledTo step xs silent 15 → Ran nan (drawnAt step xs s) xs ys (length xs) → ys ≡ filteredOf step xs
 unfolding filteredOf
 filtered step xs ys s e r = ran-done _ xs ys (rw e at r)

@@ -11,7 +11,7 @@ use Rattle.modes.specs.Facts.{Fact, given, refused, Source}
 use Rattle.modes.specs.Table.{sourceOf}
 use Rattle.phase.specs.declared.map.Slot.{Slot}
 use Rattle.wave.specs.Filter.{cutoffHarmonic, dampingOf, filterOf}
-use Rattle.wave.specs.Smooth.{distortOf}
+use Rattle.wave.specs.Smooth.{rectified, distortOf}
 use Rattle.wave.specs.Slot.{inWave, isFilter}
 use Rattle.preview.specs.Filtering.{filteredOf}
 
@@ -23,6 +23,10 @@ saysSource (refused n) = false
 -- mode.source().is_some()
 unfoldable pub hasSource : ℕ → Bool
 hasSource mode = saysSource (sourceOf mode)
+
+-- Rectify, point by point
+unfoldable pub rectifiedOf : Float → List Float → List Float
+rectifiedOf a xs = table (length xs) (λ i. rectified a (getD xs i nan))
 
 -- plain `distort`, point by point
 unfoldable pub distortedOf : List Float → ℕ → Float → List Float → List Float

@@ -12,10 +12,12 @@ use phase::Slot;
 use reads::read_cycle;
 ghost use mathlib.Core.Path.{_≡_};
 ghost use Prim.Native.Nat.{_≤_, _<_};
+ghost use lib.Ieee.{nan};
 ghost use lib.ListN.{length};
 ghost use Rattle.floats.specs.Exp2.{entries};
 ghost use Rattle.preview.specs.Points.{IsSet};
-ghost use Rattle.preview.specs.Runs.{Ran, plainAt};
+ghost use Rattle.grid.specs.Runs.{Ran};
+ghost use Rattle.preview.specs.Runs.{plainAt};
 ghost use Rattle.preview.specs.Picture.{readOf, pictureOf};
 
 // The sums of all points' reads, where a slot is in the phase stage.
@@ -42,7 +44,7 @@ fn read_mapped(
 // Where none is: the cycle at each point's word, with gain 1.
 fn read_plain(cycle: &[f32], picture: &mut [f32])
     requires { ⌜ 2048 ≤ length (now cycle) ⌝ ∗ ⌜ length (now picture) ≤ 4096 ⌝ }
-    ensures { λ _. ⌜ Ran (plainAt (now (cycle .entry)) (length (now (picture .entry)))) (now (picture .entry)) (now (picture .exit)) (length (now (picture .entry))) ⌝ }
+    ensures { λ _. ⌜ Ran nan (plainAt (now (cycle .entry)) (length (now (picture .entry)))) (now (picture .entry)) (now (picture .exit)) (length (now (picture .entry))) ⌝ }
 {
     let points = picture.len();
     for i in 0..points {

@@ -7,10 +7,11 @@ use lanes::sin_cycles;
 use wave::Svf;
 use wave::filter_with;
 ghost use mathlib.Core.Path.{_≡_};
+ghost use lib.Ieee.{nan};
 ghost use lib.ListN.{length};
 ghost use Rattle.wave.specs.Filter.{tangentOf, filterWith};
 ghost use Rattle.preview.specs.Filtering.{passTo, settledTo, drawnAt, silent};
-ghost use Rattle.preview.specs.Runs.{Ran};
+ghost use Rattle.grid.specs.Runs.{Ran};
 
 const PI: f32 = 3.1415927;
 
@@ -53,7 +54,7 @@ pub fn settle(mode: u32, g: f32, k: f32, picture: &[f32]) -> Svf
 
 // The pass that is drawn, in place.
 pub fn draw_pass(mode: u32, g: f32, k: f32, state: Svf, picture: &mut [f32])
-    ensures { λ _. ⌜ Ran (drawnAt (filterWith mode g k) (now (picture .entry)) state) (now (picture .entry)) (now (picture .exit)) (length (now (picture .entry))) ⌝ }
+    ensures { λ _. ⌜ Ran nan (drawnAt (filterWith mode g k) (now (picture .entry)) state) (now (picture .entry)) (now (picture .exit)) (length (now (picture .entry))) ⌝ }
 {
     let mut s = state;
     for i in 0..picture.len() {

@@ -4,15 +4,18 @@ use crate::filtering::settle;
 use crate::filtering::tangent;
 use lanes::Numbers;
 use modes::SourceFact;
+use modes::numbers::RECTIFY;
 use phase::Slot;
+use wave::blend_rectified;
+use wave::curve_all;
 use wave::cutoff_harmonic;
 use wave::damping;
-use wave::distort;
+use wave::drive;
 use wave::in_wave;
 use wave::is_filter;
 ghost use mathlib.Core.Path.{_≡_};
 ghost use Rattle.floats.specs.Exp2.{entries};
-ghost use Rattle.preview.specs.Shaping.{hasSource, distortedOf, settledOf, shapedOf};
+ghost use Rattle.preview.specs.Shaping.{hasSource, rectifiedOf, distortedOf, settledOf, shapedOf};
 
 fn has_source(mode: u32) -> bool
     ensures { λ r. ⌜ r ≡ hasSource mode ⌝ }
@@ -25,12 +28,22 @@ fn has_source(mode: u32) -> bool
     }
 }
 
+fn rectify_picture(a: f32, picture: &mut [f32])
+    ensures { λ _. ⌜ now (picture .exit) ≡ rectifiedOf a (now (picture .entry)) ⌝ }
+{
+    for i in 0..picture.len() {
+        picture[i] = blend_rectified(a, picture[i]);
+    }
+}
+
+// Plain `distort`, with the drive worked out once.
 fn distort_picture(powers: &[u32; 257], numbers: Numbers, mode: u32, a: f32, picture: &mut [f32])
     requires { ⌜ now powers ≡ entries ⌝ }
     ensures { λ _. ⌜ now (picture .exit) ≡ distortedOf (numbers .sin) mode a (now (picture .entry)) ⌝ }
 {
-    for i in 0..picture.len() {
-        picture[i] = distort(powers, numbers, mode, a, picture[i]);
+    match mode {
+        RECTIFY => rectify_picture(a, picture),
+        _ => curve_all(powers, numbers, mode, drive(powers, mode, a), picture),
     }
 }
 

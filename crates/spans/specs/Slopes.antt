@@ -11,7 +11,7 @@ use Rattle.floats.specs.Sign.{absOf}
 use Rattle.lanes.specs.Lane.{minOf, maxOf}
 use Rattle.lanes.specs.Word.{two32}
 use Rattle.modes.specs.Facts.{Fact, given, refused, thruZero, exponential, linear, Modulated, fm, phaseDistortion, am, ring}
-use Rattle.modes.specs.Table.{modulatedOf, distortionOf}
+use Rattle.modes.specs.Table.{modulatedOf, isDistortion}
 use Rattle.slope.specs.Slope.{stretchOf}
 use Rattle.voice.specs.PhaseRun.{whole, inPhase, fmMaxHz, fmExponential}
 use Rattle.limits.specs.Lengths.{subBlock}
@@ -118,12 +118,8 @@ slotSpan second mode factor perHertz curve base modulation source from k span =
 
 -- ---- both slots
 
-abbrev pub saysYes : Fact Bool → Bool
-saysYes (given flag) = flag
-saysYes (refused n) = false
-
 unfoldable pub distorts : ℕ → ℕ → Bool
-distorts mode0 mode1 = saysYes (distortionOf mode0) || saysYes (distortionOf mode1)
+distorts mode0 mode1 = isDistortion mode0 || isDistortion mode1
 
 unfoldable pub startSpan : ℕ → ℕ → ℕ → Span
 startSpan mode0 mode1 factor = record { inner = 1f; stretch = if distorts mode0 mode1 then whole factor else 1f; add = 0f }

@@ -5,8 +5,8 @@ use grid::place;
 use lanes::max;
 use lanes::min;
 use limits::SUB_BLOCK;
-use modes::FlagFact;
 use modes::ModulatedFact;
+use modes::is_distortion;
 use slope::stretch_of;
 use voice::FM_MAX_HZ;
 use voice::PD_MAX_CYCLES;
@@ -18,10 +18,9 @@ ghost use lib.ListN.{length};
 ghost use lib.Ieee.{nan};
 ghost use Rattle.floats.specs.Exp2.{entries};
 ghost use Rattle.grid.specs.Cells.{column};
-ghost use Rattle.modes.specs.Table.{distortionOf};
 ghost use Rattle.controls.specs.Controls.{lentOf, controlBuffers, controlLengths, controlsOf};
 ghost use Rattle.limits.specs.Lengths.{Holds};
-ghost use Rattle.spans.specs.Slopes.{widened, boundsTo, boundsOf, swung, swingTo, steepestAt, reachOf, wordsPerHertz, fmSlope, pdSlope, addedOf, addOf, slotSpan, distorts, saysYes, startSpan, spanAt};
+ghost use Rattle.spans.specs.Slopes.{widened, boundsTo, boundsOf, swung, swingTo, steepestAt, reachOf, wordsPerHertz, fmSlope, pdSlope, addedOf, addOf, slotSpan, distorts, startSpan, spanAt};
 ghost use Rattle.spans.specs.Promises.{Rows, Sub, Prepares};
 
 // The words of one cycle.
@@ -267,20 +266,10 @@ fn slot_span(
     span
 }
 
-fn distorts_one(mode: u32) -> bool
-    ensures { λ r. ⌜ r ≡ saysYes (distortionOf mode) ⌝ }
-{
-    let distortion = modes::distortion(mode);
-    match distortion {
-        FlagFact::Yes => true,
-        _ => false,
-    }
-}
-
 fn distorts(mode0: u32, mode1: u32) -> bool
     ensures { λ r. ⌜ r ≡ distorts mode0 mode1 ⌝ }
 {
-    distorts_one(mode0) | distorts_one(mode1)
+    is_distortion(mode0) | is_distortion(mode1)
 }
 
 // A distortion makes harmonics of whatever it's given, so it's given a read band-limited to the host

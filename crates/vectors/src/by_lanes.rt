@@ -63,9 +63,12 @@ fn lane_range(
     )
 }
 
+// What stands for the answer before the first call.
+const NO_CALL: u32 = 98;
+
 // What the calls answer, all alike; 99 where two differ.
 fn alike(a: Answer, b: Answer) -> Answer {
-    if (a.number == b.number) & (a.frames == b.frames) {
+    if (a.number == NO_CALL) | ((a.number == b.number) & (a.frames == b.frames)) {
         b
     } else {
         Answer {
@@ -98,31 +101,13 @@ pub fn lanes_run(
     rows: usize,
     cells: usize,
 ) -> Answer
-    requires { ⌜ 1 ≤ calls ⌝ ∗ ⌜ rows ≤ 160 ⌝ ∗ ⌜ cells ≤ 288 ⌝ }
+    requires { ⌜ rows ≤ 160 ⌝ ∗ ⌜ cells ≤ 288 ⌝ }
 {
-    let mut lane = calls - 1;
-    let mut a = lane_range(
-        b,
-        i,
-        e,
-        r,
-        active,
-        lane,
-        curve,
-        controls,
-        cycle,
-        words,
-        steps,
-        inner,
-        output,
-        work,
-        pairs,
-        fm,
-        last,
-        state,
-        rows,
-        cells,
-    );
+    let mut lane = calls;
+    let mut a = Answer {
+        number: NO_CALL,
+        frames: 0,
+    };
     while lane > 0 {
         lane -= 1;
         let next = lane_range(

@@ -1,3 +1,4 @@
 pub mod Settings
 pub mod Drives
 pub mod Powers
+pub mod Distorting

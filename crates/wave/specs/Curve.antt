@@ -2,12 +2,14 @@
 use Prim.Native.Nat.{ℕ}
 use mathlib.Core.List.{List, [], _∷_}
 use lib.Ieee as Ieee
-use lib.Ieee.{Float}
+use lib.ListN.{length, getD}
+use lib.Ieee.{Float, nan}
 use Rattle.floats.specs.F32.{_⊕_, _⊖_, _⊗_, _⊘_, bits, 0f, 1f, 2f, 4f, 27f, ½f, ¼f, 1½f, tau}
 use Rattle.floats.specs.Steps.{_>>=_}
 use Rattle.floats.specs.Floor.{floorOf}
 use Rattle.floats.specs.Sign.{absOf}
 use Rattle.floats.specs.Sqrt.{sqrtOf}
+use Rattle.grid.specs.Functions.{table}
 use Rattle.lanes.specs.Lane.{mulAdd, minOf, maxOf}
 use Rattle.lanes.specs.Maths.{signOf, clampOf, sinCycles, tanhOf, expOf}
 use Rattle.modes.specs.Mode.{numberOf, Valve, SoftClip, HardClip, Diode1, Diode2, Fold, SineFold, ZeroSquare, Asymmetric, Rectify, SineShaper, Pedal, Tape, SoftSaturate}
@@ -133,3 +135,7 @@ curveOf sk mode x =
     (numberOf SoftSaturate ⇒ softSaturateCurve x) ∷
     [])
     x
+
+-- the curve of every number, each times `by` first
+unfoldable pub curvesOf : List Float → ℕ → Float → List Float → List Float
+curvesOf sk mode by xs = table (length xs) (λ i. curveOf sk mode (getD xs i nan ⊗ by))

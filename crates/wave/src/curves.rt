@@ -27,7 +27,7 @@ use modes::numbers::VALVE;
 use modes::numbers::ZERO_SQUARE;
 ghost use mathlib.Core.Path.{_≡_};
 ghost use Rattle.floats.specs.Exp2.{entries};
-ghost use Rattle.wave.specs.Curve.{valveCurve, softClipCurve, hardClipCurve, diode1Curve, diode2Curve, foldCurve, sineFoldCurve, zeroSquareCurve, asymmetricCurve, rectifyCurve, sineShaperCurve, pedalCurve, tapeCurve, softSaturateCurve, curveOf};
+ghost use Rattle.wave.specs.Curve.{valveCurve, softClipCurve, hardClipCurve, diode1Curve, diode2Curve, foldCurve, sineFoldCurve, zeroSquareCurve, asymmetricCurve, rectifyCurve, sineShaperCurve, pedalCurve, tapeCurve, softSaturateCurve, curveOf, curvesOf};
 
 // tanh of the valve's bias.
 pub const VALVE_TANH_BIAS: f32 = 0.244_918_66;
@@ -169,8 +169,9 @@ pub fn curve(powers: &[u32; 257], numbers: Numbers, mode: u32, x: f32) -> f32
     }
 }
 
-// The same for `distort`, arm for arm: the compiler puts `curve` into the block run's loop as long as nothing
-// else calls it, and as a function it costs a run with a distortion a tenth of its time.
+// The same for single samples and for many in a row, arm for arm: the compiler puts `curve` into the block
+// run's loop as long as nothing else calls it, and as a function it costs a run with a distortion a tenth
+// of its time.
 pub fn plain_curve(powers: &[u32; 257], numbers: Numbers, mode: u32, x: f32) -> f32
     requires { ⌜ now powers ≡ entries ⌝ }
     ensures { λ r. ⌜ r ≡ curveOf (numbers .sin) mode x ⌝ }
@@ -191,5 +192,16 @@ pub fn plain_curve(powers: &[u32; 257], numbers: Numbers, mode: u32, x: f32) -> 
         TAPE => tape(x),
         SOFT_SATURATE => soft_saturate(x),
         _ => x,
+    }
+}
+
+// The curve of every number, each times `by` first: a picture's samples with their drive, or many drives
+// of one sample. One loop for both, so that `plain_curve` is put into it.
+pub fn curve_all(powers: &[u32; 257], numbers: Numbers, mode: u32, by: f32, xs: &mut [f32])
+    requires { ⌜ now powers ≡ entries ⌝ }
+    ensures { λ _. ⌜ now (xs .exit) ≡ curvesOf (numbers .sin) mode by (now (xs .entry)) ⌝ }
+{
+    for i in 0..xs.len() {
+        xs[i] = plain_curve(powers, numbers, mode, xs[i] * by);
     }
 }

@@ -7,6 +7,7 @@ pub mod slots;
 pub mod smoothing;
 
 pub use curves::curve;
+pub use curves::curve_all;
 pub use filters::Filtered;
 pub use filters::Svf;
 pub use filters::cutoff_harmonic;
@@ -24,6 +25,7 @@ pub use slots::setting_of;
 pub use slots::setting_with;
 pub use slots::shape;
 pub use slots::wave_power;
+pub use smoothing::blend_rectified;
 pub use smoothing::distort;
 pub use smoothing::distort_smooth;
 pub use smoothing::drive;

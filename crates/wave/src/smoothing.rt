@@ -53,7 +53,7 @@ pub fn gain(powers: &[u32; 257], mode: u32, a: f32) -> f32
 }
 
 // Blends towards full-wave rectification.
-fn blend_rectified(a: f32, x: f32) -> f32
+pub fn blend_rectified(a: f32, x: f32) -> f32
     ensures { λ r. ⌜ r ≡ rectified a x ⌝ }
 {
     (abs(x) - x) * a + x

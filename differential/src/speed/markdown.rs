@@ -24,6 +24,22 @@ pub fn times(title: &str, what: &str, rows: impl IntoIterator<Item = (String, Ti
     table(title, &[what, "here", "Rust", "ratio"], rows.into_iter().map(cells));
 }
 
+/// The geometric means of both sides, whose ratio is that of the ratios.
+fn mean(rows: &[(String, Times)]) -> Times {
+    let of = |side: fn(&Times) -> f64| {
+        let sum: f64 = rows.iter().map(|(_, times)| side(times).ln()).sum();
+        (sum / rows.len() as f64).exp()
+    };
+    Times { here: of(|times| times.here), rust: of(|times| times.rust) }
+}
+
+/// The same, and their means as the last row.
+pub fn times_and_mean(title: &str, what: &str, rows: impl IntoIterator<Item = (String, Times)>) {
+    let mut rows: Vec<(String, Times)> = rows.into_iter().collect();
+    rows.push(("geometric mean".to_string(), mean(&rows)));
+    times(title, what, rows);
+}
+
 pub fn hundredths(number: f64) -> String {
     format!("{number:.2}")
 }

@@ -60,18 +60,7 @@ fn measured(modes: [u32; 2]) -> (String, Times) {
     (modes.map(|mode| format!("{:?}", api::mode(mode))).join(", "), times)
 }
 
-/// The geometric means of both sides, whose ratio is that of the ratios.
-fn mean(rows: &[(String, Times)]) -> Times {
-    let of = |side: fn(&Times) -> f64| {
-        let sum: f64 = rows.iter().map(|(_, times)| side(times).ln()).sum();
-        (sum / rows.len() as f64).exp()
-    };
-    Times { here: of(|times| times.here), rust: of(|times| times.rust) }
-}
-
 pub fn print() {
     let modes = PAIRS.map(|names| names.map(mode)).into_iter().chain((19..=32).map(|mode| [mode, 0]));
-    let mut rows: Vec<(String, Times)> = modes.map(measured).collect();
-    rows.push(("geometric mean".to_string(), mean(&rows)));
-    markdown::times("Pictures of 256 points, a point:", "modes (slot 0, slot 1)", rows);
+    markdown::times_and_mean("Pictures of 256 points, a point:", "modes (slot 0, slot 1)", modes.map(measured));
 }

@@ -3,18 +3,19 @@ use mathlib.Core.Path.{_≡_, refl, _∙_, ap}
 use Prim.Native.Nat.{ℕ, _≤_, _<_, _-_}
 use native.Mathlib.Omega.{arith}
 use lib.ListN.{length}
+use lib.Ieee.{nan}
 use borrow.Author.Needs.{needs}
-use Rattle.preview.specs.Runs.{Ran}
+use Rattle.grid.specs.Runs.{Ran}
 use Rattle.preview.specs.Points.{wordAt, pointOf}
 use Rattle.preview.specs.Picture.{readOf}
-use Rattle.preview.proofs.RunLaws.{ran-none, ran-more, ran-done}
+use Rattle.grid.proofs.RunLaws.{ran-none, ran-more, ran-done}
 use Rattle.preview.proofs.drawing.read_mapped.Statement.{statement}
 use Rattle.preview.proofs.drawing.read_mapped.Tie as tie
 
 abbrev Inv-loop : tie.InvT-loop
 Inv-loop numbers curve cycle map0 map1 picture₀ points i₀ picture i =
     (i ≤ points) × (points ≡ length picture₀)
-    × Ran (λ k. pointOf (numbers .sin) (numbers .atan) curve cycle (map0 .slot) (map0 .amount) (map0 .half) (map1 .slot) (map1 .amount) (map1 .half) (wordAt (length picture₀) k)) picture₀ picture i
+    × Ran nan (λ k. pointOf (numbers .sin) (numbers .atan) curve cycle (map0 .slot) (map0 .amount) (map0 .half) (map1 .slot) (map1 .amount) (map1 .half) (wordAt (length picture₀) k)) picture₀ picture i
 
 abbrev μ-loop : tie.MeasureT-loop
 μ-loop numbers curve cycle map0 map1 picture₀ points i₀ picture i = points - i

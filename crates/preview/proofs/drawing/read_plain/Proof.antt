@@ -3,17 +3,18 @@ use mathlib.Core.Path.{_≡_, refl, ap, _∙_}
 use Prim.Native.Nat.{ℕ, _≤_, _<_, _-_}
 use native.Mathlib.Omega.{arith}
 use lib.ListN.{length}
-use lib.Ieee.{Float}
+use lib.Ieee.{Float, nan}
 use borrow.Author.Needs.{needs}
 use Rattle.floats.specs.F32.{_⊗_, 1f}
 use Rattle.preview.specs.Points.{wordAt}
-use Rattle.preview.specs.Runs.{Ran, plainAt}
-use Rattle.preview.proofs.RunLaws.{ran-none, ran-more}
+use Rattle.grid.specs.Runs.{Ran}
+use Rattle.preview.specs.Runs.{plainAt}
+use Rattle.grid.proofs.RunLaws.{ran-none, ran-more}
 use Rattle.preview.proofs.drawing.read_plain.Statement.{statement}
 use Rattle.preview.proofs.drawing.read_plain.Tie as tie
 
 abbrev Inv-loop : tie.InvT-loop
-Inv-loop cycle picture₀ points i₀ picture i = (i ≤ points) × (points ≡ length picture₀) × Ran (plainAt cycle (length picture₀)) picture₀ picture i
+Inv-loop cycle picture₀ points i₀ picture i = (i ≤ points) × (points ≡ length picture₀) × Ran nan (plainAt cycle (length picture₀)) picture₀ picture i
 
 abbrev μ-loop : tie.MeasureT-loop
 μ-loop cycle picture₀ points i₀ picture i = points - i

@@ -3,20 +3,21 @@ use mathlib.Core.Path.{_≡_, refl, _∙_, ap}
 use Prim.Native.Nat.{_≤_, _<_, _-_}
 use native.Mathlib.Omega.{arith}
 use lib.ListN.{length, length-set}
-use lib.Ieee.{Float}
+use lib.Ieee.{Float, nan}
 use borrow.Author.Needs.{needs}
 use Rattle.wave.specs.declared.filters.Svf.{Svf}
 use Rattle.wave.specs.declared.filters.Filtered.{Filtered}
 use Rattle.wave.specs.Filter.{filterWith}
-use Rattle.preview.specs.Runs.{Ran}
+use Rattle.grid.specs.Runs.{Ran}
 use Rattle.preview.specs.Filtering.{passTo, drawnAt}
-use Rattle.preview.proofs.RunLaws.{ran-none, ran-more, pass-none, pass-more, point-drawn}
+use Rattle.grid.proofs.RunLaws.{ran-none, ran-more}
+use Rattle.preview.proofs.RunLaws.{pass-none, pass-more, point-drawn}
 use Rattle.preview.proofs.filtering.draw_pass.Statement.{statement}
 use Rattle.preview.proofs.filtering.draw_pass.Tie as tie
 
 abbrev Inv-loop : tie.InvT-loop
 Inv-loop mode g k picture₀ s₀ i₀ i-end picture s i =
-    (i ≤ i-end) × (i-end ≡ length picture₀) × Ran (drawnAt (filterWith mode g k) picture₀ s₀) picture₀ picture i
+    (i ≤ i-end) × (i-end ≡ length picture₀) × Ran nan (drawnAt (filterWith mode g k) picture₀ s₀) picture₀ picture i
     × (s ≡ passTo (filterWith mode g k) picture₀ s₀ i)
 
 abbrev μ-loop : tie.MeasureT-loop

@@ -1,54 +1,34 @@
 -- `shaping::distort_picture` meets its contract. Assumes nothing.
-use mathlib.Core.Path.{_≡_, refl, _∙_}
-use Prim.Native.Nat.{ℕ, _≤_, _<_, _-_}
-use native.Mathlib.Omega.{arith}
-use lib.ListN.{length, getD}
-use lib.Ieee.{nan}
+use mathlib.Core.Path.{_∙_}
 use borrow.Author.Needs.{needs}
-use Rattle.wave.specs.Smooth.{distortOf}
-use Rattle.preview.specs.Runs.{Ran}
-use Rattle.preview.specs.Shaping.{distortedOf}
-use Rattle.preview.proofs.RunLaws.{ran-none, ran-more, ran-done}
+use Rattle.grid.proofs.TableLaws.{same-table}
+use Rattle.wave.specs.Curve.{curvesOf}
+use Rattle.wave.proofs.Distorting.{distort-rectified, distort-curved}
+use Rattle.preview.specs.Shaping.{rectifiedOf, distortedOf}
 use Rattle.preview.proofs.shaping.distort_picture.Statement.{statement}
 use Rattle.preview.proofs.shaping.distort_picture.Tie as tie
 
-abbrev Inv-loop : tie.InvT-loop
-Inv-loop powers numbers mode a picture₀ i₀ i-end picture i =
-    (i ≤ i-end) × (i-end ≡ length picture₀) × Ran (λ k. distortOf (numbers .sin) mode a (getD picture₀ k nan)) picture₀ picture i
-
-abbrev μ-loop : tie.MeasureT-loop
-μ-loop powers numbers mode a picture₀ i₀ i-end picture i = i-end - i
-
-inside : (c : tie.In-loop Inv-loop μ-loop) → c .before .loop .i < length (c .before .loop .picture)
-inside c = omega (arith, c .loop-test .taken, c .before .loop .inv .1, c .before .loop .inv .2 .long)
-
-loop-again : tie.Need-loop-again Inv-loop μ-loop
-loop-again c =
-    let l = c .before .before .before .loop in
-    let same = l .inv .2 .kept (l .i) (omega arith) in
-    (omega (arith, c .before .before .loop-test .taken), l .inv .1, ran-more _ _ _ _ _ (inside (c .before .before)) (l .inv .2) (rw same at (c .distort .ensures)))
-
-returns : tie.Need-returns Inv-loop μ-loop
-unfolding distortedOf
+returns : tie.Need-returns
+unfolding rectifiedOf distortedOf
 returns c =
-    let l = c .before .loop in
-    let e : l .i ≡ length (c .before .before .before .args .picture .now) = omega (arith, l .inv .1) in
-    ran-done _ _ _ (rw e at (l .inv .2))
+    let d = c .before .before in
+    d .rectify-picture .ensures ∙ same-table _ _ _ (λ i l. distort-rectified _ _ _ _ (d .before .before .match .keys1))
+
+returns-2 : tie.Need-returns-2
+unfolding curvesOf distortedOf
+returns-2 c =
+    let d = c .before .before in
+    let e = d .before .before in
+    (rw (e .drive .ensures) at (d .curve-all .ensures)) ∙ same-table _ _ _ (λ i l. distort-curved _ _ _ _ (e .before .match .rest .1))
 
 pub distort-picture-spec : {M : Type 1} → statement M
 distort-picture-spec =
     tie.close
     (tie.spec
-    Inv-loop
-    μ-loop
-    (λ c. (omega arith, refl, ran-none _ _))
-    (λ c. search needs)
-    (λ c. inside (c .before))
+    (λ c κs. search needs)
+    (λ c κs. search needs)
     (λ c κs. search needs)
     (λ c. search needs)
-    (λ c. inside (c .before .before))
+    returns
     (λ c. search needs)
-    (λ c. search needs)
-    loop-again
-    (λ c. c .before .loop .inv .2 .long)
-    returns)
+    returns-2)

@@ -21,12 +21,6 @@ lane-range-requires c κs = search needs
 loop-holds : tie.Need-loop-holds Inv-loop μ-loop
 loop-holds c = search needs
 
-sub-lane-2 : tie.Need-sub-lane-2 Inv-loop μ-loop
-sub-lane-2 c = search needs
-
-lane-range-requires-2 : tie.Need-lane-range-requires-2 Inv-loop μ-loop
-lane-range-requires-2 c κs = search needs
-
 alike-requires : tie.Need-alike-requires Inv-loop μ-loop
 alike-requires c κs = search needs
 
@@ -45,11 +39,9 @@ lanes-run-spec =
     (tie.spec
     Inv-loop
     μ-loop
+    loop-holds
     sub-lane
     lane-range-requires
-    loop-holds
-    sub-lane-2
-    lane-range-requires-2
     alike-requires
     loop-less
     loop-again
