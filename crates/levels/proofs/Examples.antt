@@ -19,7 +19,7 @@ use Rattle.controls.specs.Controls.{percentOf}
 use Rattle.files.specs.Patch.{cardAmount}
 use Rattle.levels.specs.Levels.{amountOf, withinOf, withinAt}
 use Rattle.levels.specs.Found.{accepted, turnedDown, foundOf}
-use Rattle.levels.specs.Answered.{Asked, least, nowhere}
+use Rattle.levels.specs.Answered.{Searched, least, nowhere}
 use Rattle.levels.proofs.AnsweredLaws.{answered}
 use Rattle.levels.proofs.WithinLaws.{nan-tolerance}
 
@@ -38,8 +38,8 @@ module _ (sk : List Float) where
   unfolding withinAt withinOf amountOf cardAmount percentOf clampOf minOf maxOf distortOf curved curveOf hardClipCurve driveOf mostOf exp2Of caseOf absOf _>>=_ Ieee.ofBits Ieee.ofInt Ieee.round Ieee.neg Ieee.div Ieee.mul Ieee.sub Ieee.add Ieee.le Ieee.lt Ieee.eq
   clipped = refl
 
-  asked : Asked 21 13
-  asked = record { distortion = unfold isDistortion distortionOf in refl; numbers = omega arith }
+  searched : Searched 21 13
+  searched = record { distortion = unfold isDistortion distortionOf in refl; numbers = omega arith }
 
   -- HardClip of 0 is 0 at once
   silent : withinAt sk 21 0f 0f (Ieee.neg 0f) 0 ≡ true
@@ -49,8 +49,8 @@ module _ (sk : List Float) where
   pub silent-found : foundOf sk 13 21 0f 0f (Ieee.neg 0f) ≡ accepted 0
   silent-found =
       answered sk 13 21 0f 0f (Ieee.neg 0f) .each
-      (least asked 0 (record { most = omega arith; there = silent; before = λ i h. absurd (omega arith) }))
+      (least searched 0 (record { most = omega arith; there = silent; before = λ i h. absurd (omega arith) }))
 
   -- and no amount is within a tolerance of NaN
   pub nan-refused : (sample wanted : Float) → foundOf sk 13 21 sample wanted nan ≡ turnedDown 12
-  nan-refused sample wanted = answered sk 13 21 sample wanted nan .each (nowhere asked (record { nowhere = λ i h. unfold withinAt _>>=_ in nan-tolerance _ _ }))
+  nan-refused sample wanted = answered sk 13 21 sample wanted nan .each (nowhere searched (record { nowhere = λ i h. unfold withinAt _>>=_ in nan-tolerance _ _ }))
