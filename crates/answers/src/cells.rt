@@ -9,7 +9,7 @@ use floats::nearest_u32;
 // What the cells are: a decimator's coefficients, or its buffer and state; a curve's entries, of a size; or
 // those of a call. A call's controls are `base0`, `base1`, `mod0`, `mod1`, `source0`, `source1` in a row,
 // of four lanes; the number is where the sources start.
-#[derive(Drop)]
+#[derive(Clone, Copy)]
 pub enum Kind {
     Coefficient,
     Decimated,

@@ -51,7 +51,7 @@ pub fn designs(seed: u32, counts: u32, coefs: &[f32; 36]) -> Designs {
 }
 
 // The numbers of a call but for its designs' counts.
-#[derive(Drop)]
+#[derive(Clone, Copy)]
 pub struct DecimateRun {
     pub factor: u32,
     pub lanes: u32,

@@ -145,7 +145,7 @@ pub fn phase_answer(table: &[f32; 1025], op: u32, a: u32, b: u32, c: u32) -> u32
 }
 
 // The draws that a case is made of: how the others are read, the word, and the floats.
-#[derive(Drop)]
+#[derive(Clone, Copy)]
 struct Draws {
     how: u32,
     place: u32,
@@ -158,7 +158,7 @@ struct Draws {
 }
 
 // What two slots map a word with, but for their modes.
-#[derive(Drop)]
+#[derive(Clone, Copy)]
 struct Case {
     amount0: f32,
     amount1: f32,

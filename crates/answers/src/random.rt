@@ -7,7 +7,7 @@ use crate::cells::{Kind, draw_cells};
 use crate::waves::Held;
 
 // `count` cases drawn from `seed`, of two modes where these count.
-#[derive(Drop)]
+#[derive(Clone, Copy)]
 pub struct ModesRun {
     pub mode0: u32,
     pub mode1: u32,
@@ -17,7 +17,7 @@ pub struct ModesRun {
 
 // A run between two cases: the generator's state, the hash, and what a sample takes over from the one
 // before it.
-#[derive(Drop)]
+#[derive(Clone, Copy)]
 pub struct Turn {
     pub s: u32,
     pub h: u64,

@@ -9,7 +9,7 @@ use crate::waves::{Held, wave_turn};
 use wave::Svf;
 
 // A run's cases, and the hash of its answers.
-#[derive(Drop)]
+#[derive(Clone, Copy)]
 pub struct Hashed {
     pub count: u64,
     pub hash: u64,

@@ -26,7 +26,7 @@ pub fn wave_answer(powers: &[u32; 257], op: u32, a: u32, b: u32, c: u32) -> u32
 }
 
 // The draws that a case is made of: how the others are read, and what they are read as.
-#[derive(Drop)]
+#[derive(Clone, Copy)]
 struct Draws {
     how: u32,
     x: u32,
@@ -39,7 +39,7 @@ struct Draws {
 }
 
 // What a slot shapes a sample with, but for its mode, and the state before it.
-#[derive(Drop)]
+#[derive(Clone, Copy)]
 struct Case {
     percent: f32,
     character: f32,
@@ -51,7 +51,7 @@ struct Case {
 }
 
 // What a case takes over from the one before it.
-#[derive(Drop)]
+#[derive(Clone, Copy)]
 pub struct Held {
     pub percent: f32,
     pub x: f32,

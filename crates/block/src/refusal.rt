@@ -17,7 +17,7 @@ use shaper::Range;
 
 // What lines 1 to 6 look at: the run's numbers without characters, coefficients and sine and arctangent
 // numbers.
-#[derive(Drop)]
+#[derive(Clone, Copy)]
 pub struct CallNumbers {
     pub mode0: u32,
     pub mode1: u32,
@@ -34,7 +34,7 @@ pub struct CallNumbers {
 }
 
 // The lengths of what it is lent to read. `coefs` and `numbers` are 36 and 13 where those come by value.
-#[derive(Drop)]
+#[derive(Clone, Copy)]
 pub struct ReadLengths {
     pub controls: ControlLengths,
     pub curve: usize,
@@ -47,7 +47,7 @@ pub struct ReadLengths {
 }
 
 // The lengths of what it writes.
-#[derive(Drop)]
+#[derive(Clone, Copy)]
 pub struct WriteLengths {
     pub output: usize,
     pub work: usize,

@@ -18,7 +18,7 @@ pub fn range_of(frames: u32, draw: u32, first: u32, fault: u32) -> Range {
 }
 
 // How many cells a call is lent of what may be one cell short.
-#[derive(Drop)]
+#[derive(Clone, Copy)]
 pub struct Ends {
     pub words: usize,
     pub base0: usize,

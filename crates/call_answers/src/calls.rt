@@ -11,7 +11,7 @@ use grid::place;
 
 // The numbers of a block, and of the range and the frames in it that a call is about. The factor is
 // 2^`shift`.
-#[derive(Drop)]
+#[derive(Clone, Copy)]
 struct Place {
     shift: u32,
     lanes: u32,
@@ -72,7 +72,7 @@ fn word_of(how: u32, draw: u32) -> u32 {
 }
 
 // The numbers of a call; each kind of call takes some of them.
-#[derive(Drop)]
+#[derive(Clone, Copy)]
 pub struct Call {
     pub mode0: u32,
     pub mode1: u32,
@@ -124,7 +124,7 @@ pub fn call_of(run: ModesRun, d: Draws) -> Call {
 }
 
 // How many cells a call is lent of the buffers that may be absent or one cell short.
-#[derive(Drop)]
+#[derive(Clone, Copy)]
 pub struct Lent {
     pub base0: usize,
     pub inputs: Inputs,

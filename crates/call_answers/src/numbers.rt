@@ -7,7 +7,7 @@ use answers::phases::fraction;
 use answers::random::next;
 
 // The draws that a call is made of.
-#[derive(Drop)]
+#[derive(Clone, Copy)]
 pub struct Draws {
     pub sizes: u32,
     pub range: u32,
@@ -117,7 +117,7 @@ pub fn active_with(fault: u32, lanes: u32, active: u32) -> u32 {
 }
 
 // How many cells a call is lent of what may be absent.
-#[derive(Drop)]
+#[derive(Clone, Copy)]
 pub struct Inputs {
     pub mod0: usize,
     pub mod1: usize,

@@ -6,7 +6,7 @@ ghost use Rattle.files.specs.Format.{low_two};
 use answers::random::next;
 
 // The draws that a turn is made of, beside those of its file's records.
-#[derive(Drop)]
+#[derive(Clone, Copy)]
 pub struct Draws {
     pub how: u32,
     pub place: u32,

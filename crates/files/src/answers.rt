@@ -7,7 +7,7 @@ use crate::reader::Reading;
 
 // A slot in the file's whole numbers and in the card's floats.
 #[repr(C)]
-#[derive(Drop)]
+#[derive(Clone, Copy)]
 pub struct CardSlot {
     pub mode: u32,
     pub hundredths: u32,
@@ -18,7 +18,7 @@ pub struct CardSlot {
 
 // A reading: its number and the refused record's place with no patch, or 0 and the patch.
 #[repr(C)]
-#[derive(Drop)]
+#[derive(Clone, Copy)]
 pub struct CardPatch {
     pub number: u32,
     pub at: u32,
@@ -28,7 +28,7 @@ pub struct CardPatch {
 
 // Whether two files hold the same patch: 1 or 0, and the number of the first that is turned away.
 #[repr(C)]
-#[derive(Drop)]
+#[derive(Clone, Copy)]
 pub struct Same {
     pub number: u32,
     pub same: u32,

@@ -5,14 +5,14 @@ ghost use Rattle.files.specs.Patch.{card_amount, card_character, same_patch};
 use floats::nearest_u32;
 
 // A slot's mode, its amount in hundredths of a percent and its character in ten-thousandths.
-#[derive(Drop)]
+#[derive(Clone, Copy)]
 pub struct PatchSlot {
     pub mode: u32,
     pub hundredths: u32,
     pub tenthousandths: u32,
 }
 
-#[derive(Drop)]
+#[derive(Clone, Copy)]
 pub struct Patch {
     pub slot0: PatchSlot,
     pub slot1: PatchSlot,

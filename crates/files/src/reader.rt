@@ -10,7 +10,7 @@ pub const LIMIT: usize = 65536;
 
 // What reading a file answers: the number by which it is turned away and where the record that caused it
 // starts, with no patch, or 0 and its patch.
-#[derive(Drop)]
+#[derive(Clone, Copy)]
 pub struct Reading {
     pub number: u32,
     pub at: u32,
@@ -18,14 +18,14 @@ pub struct Reading {
 }
 
 // What a slot holds after some records.
-#[derive(Drop)]
+#[derive(Clone, Copy)]
 pub struct Held {
     pub slot: PatchSlot,
     pub serial: u32,
 }
 
 // Both slots.
-#[derive(Drop)]
+#[derive(Clone, Copy)]
 pub struct Slots {
     pub held0: Held,
     pub held1: Held,

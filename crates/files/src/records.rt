@@ -10,7 +10,7 @@ pub const LENGTH: u32 = 12;
 pub const RECORD: usize = 14;
 
 // A record: its kind and the fields of its body.
-#[derive(Drop)]
+#[derive(Clone, Copy)]
 pub struct Entry {
     pub kind: u32,
     pub slot: u32,

@@ -12,7 +12,7 @@ pub const PATCH: usize = 28;
 
 // What writing answers: its number, and how many bytes it wrote.
 #[repr(C)]
-#[derive(Drop)]
+#[derive(Clone, Copy)]
 pub struct Written {
     pub number: u32,
     pub bytes: u32,

@@ -25,7 +25,7 @@ pub fn exponent(b: u32) -> u32
 
 // What `split` of the Rust returns as a pair.
 #[repr(C)]
-#[derive(Drop)]
+#[derive(Clone, Copy)]
 pub struct Parts {
     pub exponent: f32,
     pub mantissa: f32,

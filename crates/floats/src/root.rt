@@ -7,7 +7,7 @@ ghost use Rattle.floats.specs.Sqrt.{sqrt_of, root_units, IsRoot};
 ghost use Rattle.floats.specs.Promises.{NearestRoot, RootPattern};
 
 // The factors f × (f + a) + b and c × f + d - k × f × f, whose product is near the root of f.
-#[derive(Drop)]
+#[derive(Clone, Copy)]
 struct Factors {
     a: f64,
     b: f64,

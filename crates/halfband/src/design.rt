@@ -5,14 +5,14 @@ ghost use Rattle.halfband.specs.Floats.{design_at, designs_of, card_designs};
 
 // The first coefficient goes to the path that is fed the later sample of each pair, then they
 // alternate.
-#[derive(Drop)]
+#[derive(Clone, Copy)]
 pub struct Design {
     pub coefs: [f32; 12],
     pub count: u32,
 }
 
 // Indexed by how many stages before the last.
-#[derive(Drop)]
+#[derive(Clone, Copy)]
 pub struct Designs {
     pub stages: [Design; 3],
 }

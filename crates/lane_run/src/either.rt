@@ -3,7 +3,7 @@ ghost use Rattle.std.specs.Prelude.{◌≡◌, true, ◌<◌};
 ghost use Rattle.lane_run.specs.Either.{interval_of};
 
 // From ≤ lane < to.
-#[derive(Drop)]
+#[derive(Clone, Copy)]
 pub struct Interval {
     pub from: u32,
     pub to: u32,

@@ -16,7 +16,7 @@ const LN_2: f32 = 0.6931472;
 
 // The numbers of the sine's and the arctangent's polynomials, `SIN` and `ATAN` of the Rust.
 #[repr(C)]
-#[derive(Drop)]
+#[derive(Clone, Copy)]
 pub struct Numbers {
     pub sin: [f32; 5],
     pub atan: [f32; 8],

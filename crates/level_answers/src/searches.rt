@@ -9,7 +9,7 @@ use levels::Found;
 use wave::distort;
 
 // The draws that a search is made of.
-#[derive(Drop)]
+#[derive(Clone, Copy)]
 struct Draws {
     how: u32,
     sample: u32,

@@ -15,7 +15,7 @@ use search::{AMOUNTS, least_within};
 // The number by which a call is turned down, 0 where it is accepted, and the amount in hundredths of a
 // percent, 0 where it is turned down.
 #[repr(C)]
-#[derive(Drop)]
+#[derive(Clone, Copy)]
 pub struct Found {
     pub number: u32,
     pub hundredths: u32,

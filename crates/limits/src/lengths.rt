@@ -18,7 +18,7 @@ pub const NUMBERS_LENGTH: usize = 13;
 pub const SUB_BLOCK: usize = 32;
 
 // The lengths of base, modulation and sources of both slots.
-#[derive(Drop)]
+#[derive(Clone, Copy)]
 pub struct ControlLengths {
     pub base0: usize,
     pub base1: usize,

@@ -4,7 +4,7 @@ ghost use Rattle.modes.specs.Table.{source_of, fm_type_of, modulated_of};
 ghost use Rattle.modes.specs.Says.{source_says, fm_type_says, modulated_says};
 
 // The Rust's `Option<Source>`, or the refusal.
-#[derive(Drop)]
+#[derive(Clone, Copy)]
 pub enum SourceFact {
     Osc1,
     Osc2,
@@ -18,7 +18,7 @@ pub enum SourceFact {
 }
 
 // The Rust's `Option<FmType>`, or the refusal.
-#[derive(Drop)]
+#[derive(Clone, Copy)]
 pub enum FmTypeFact {
     ThruZero,
     Exponential,
@@ -28,7 +28,7 @@ pub enum FmTypeFact {
 }
 
 // The Rust's `Option<Modulated>`, or the refusal; the three cases of `Fm` are spelled out.
-#[derive(Drop)]
+#[derive(Clone, Copy)]
 pub enum ModulatedFact {
     FmThruZero,
     FmExponential,

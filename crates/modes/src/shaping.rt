@@ -4,7 +4,7 @@ ghost use Rattle.modes.specs.Table.{stage_of, oversampled_of, distortion_of, is_
 ghost use Rattle.modes.specs.Says.{stage_says, flag_says};
 
 // The Rust's `Stage`, or the refusal.
-#[derive(Drop)]
+#[derive(Clone, Copy)]
 pub enum StageFact {
     Off,
     Phase,
@@ -13,7 +13,7 @@ pub enum StageFact {
 }
 
 // A bool, or the refusal.
-#[derive(Drop)]
+#[derive(Clone, Copy)]
 pub enum FlagFact {
     Yes,
     No,

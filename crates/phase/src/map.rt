@@ -26,7 +26,7 @@ const FRAC_1_PI: f32 = 0.31830987;
 const TAU: f32 = 6.2831855;
 
 // What a slot shapes with during a render, beside the lent curve: its mode and character.
-#[derive(Drop)]
+#[derive(Clone, Copy)]
 pub struct Slot {
     pub mode: u32,
     pub character: f32,

@@ -15,7 +15,7 @@ const MAX: f32 = 3.4028235e38;
 
 // The step sizes: how many steps a cycle has, one step, how far both reads are moved toward the
 // running phase, and the crossfade's half width.
-#[derive(Drop)]
+#[derive(Clone, Copy)]
 pub struct Steps {
     pub steps: f32,
     pub step: f32,
@@ -24,7 +24,7 @@ pub struct Steps {
 }
 
 // The nearest grid line, and the last.
-#[derive(Drop)]
+#[derive(Clone, Copy)]
 pub struct Line {
     pub k: f32,
     pub last: f32,
@@ -32,7 +32,7 @@ pub struct Line {
 
 // The nearer edge, a grid line or the cycle's end: how far it is, the held reads to its left and
 // right, and where both go as the steps fade.
-#[derive(Drop)]
+#[derive(Clone, Copy)]
 pub struct Edge {
     pub distance: f32,
     pub left: f32,

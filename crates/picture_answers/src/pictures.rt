@@ -10,7 +10,7 @@ use limits::Answer;
 use phase::Slot;
 
 // The draws that a picture is made of.
-#[derive(Drop)]
+#[derive(Clone, Copy)]
 struct Draws {
     how: u32,
     points: u32,

@@ -9,7 +9,7 @@ use reads::MAX_READS;
 
 // What a plan is asked for: lane count and active lanes, factor, the block's host frames, and how many
 // sections each of the three designs has.
-#[derive(Drop)]
+#[derive(Clone, Copy)]
 pub struct BlockNumbers {
     pub lanes: u32,
     pub active: u32,
@@ -24,7 +24,7 @@ pub struct BlockNumbers {
 // filter pairs, FM carry and `last`; the most list reads; the half-band section steps of the active lanes.
 // include/shaper.h has the same fields in this order; a further size goes to the end.
 #[repr(C)]
-#[derive(Drop)]
+#[derive(Clone, Copy)]
 pub struct Plan {
     pub number: u32,
     pub frames: u32,

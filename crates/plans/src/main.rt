@@ -13,7 +13,7 @@ const LINES: u64 = 1000;
 
 // How far the input is read: the line that has begun, the lines before it, whether there is more after the last line
 // that is read, and whether nothing more is to come.
-#[derive(Drop)]
+#[derive(Clone, Copy)]
 struct Input {
     line: Line,
     lines: u64,

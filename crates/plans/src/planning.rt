@@ -6,7 +6,7 @@ ghost use Rattle.plans.specs.Planning.{in_order, plans_of};
 use plan::{BlockNumbers, Plan, plan_of};
 
 // A block's numbers, its plan, and that of one of its host frames.
-#[derive(Drop)]
+#[derive(Clone, Copy)]
 pub struct LinePlan {
     pub numbers: BlockNumbers,
     pub block: Plan,

@@ -13,7 +13,7 @@ use voice::{in_phase, power_of};
 
 // A slot's map for all points of a picture, with half the width of its edges. `on` is whether the slot is
 // in the phase stage.
-#[derive(Drop)]
+#[derive(Clone, Copy)]
 pub struct MapSetting {
     pub on: bool,
     pub slot: Slot,

@@ -15,7 +15,7 @@ use reads::{LaneReads, ReadList};
 
 // Two slots' modes, characters and amounts.
 #[repr(C)]
-#[derive(Drop)]
+#[derive(Clone, Copy)]
 pub struct Slots {
     pub mode0: u32,
     pub mode1: u32,

@@ -13,7 +13,7 @@ pub const KIND_WEIGHTED: u32 = 1;
 
 pub const KIND_BOTH: u32 = 2;
 
-#[derive(Drop)]
+#[derive(Clone, Copy)]
 pub struct Branches {
     pub word0: u32,
     pub gain0: f32,

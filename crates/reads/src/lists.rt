@@ -10,7 +10,7 @@ use lanes::add_words;
 pub const MAX_READS: usize = 4;
 
 // The reads as a slot builds them.
-#[derive(Drop)]
+#[derive(Clone, Copy)]
 pub struct ReadList {
     pub word: [u32; 4],
     pub gain: [f32; 4],
@@ -21,7 +21,7 @@ pub struct ReadList {
 
 // The reads as they go out: a count of 0 is one read at `phase[0]` with no gain.
 #[repr(C)]
-#[derive(Drop)]
+#[derive(Clone, Copy)]
 pub struct LaneReads {
     pub phase: [u32; 4],
     pub gain: [f32; 4],

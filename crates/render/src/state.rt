@@ -5,7 +5,7 @@ use wave::Svf;
 
 // All numbers of a block run that belong to no lane, save its range and its count of active lanes:
 // `rate` is the host's, in whole hertz.
-#[derive(Drop)]
+#[derive(Clone, Copy)]
 pub struct BlockSettings {
     pub shaper: Settings,
     pub rate: u32,
@@ -13,7 +13,7 @@ pub struct BlockSettings {
 }
 
 // A lane's filter pairs, FM carry and `last`.
-#[derive(Drop)]
+#[derive(Clone, Copy)]
 pub struct Voice {
     pub pairs0: Svf,
     pub pairs1: Svf,
@@ -23,21 +23,21 @@ pub struct Voice {
 }
 
 // A rendered frame's sample, and the state after it.
-#[derive(Drop)]
+#[derive(Clone, Copy)]
 pub struct Stepped {
     pub sample: f32,
     pub voice: Voice,
 }
 
 // What drives a slot at a host frame: its amount, and its power at that amount.
-#[derive(Drop)]
+#[derive(Clone, Copy)]
 pub struct Drive {
     pub amount: f32,
     pub power: f32,
 }
 
 // What holds for all rendered frames of a host frame: what drives the slots, and the prepared slope.
-#[derive(Drop)]
+#[derive(Clone, Copy)]
 pub struct HostFrame {
     pub drive0: Drive,
     pub drive1: Drive,

@@ -5,7 +5,7 @@ use phase::Slot;
 
 // `frames` is the block's count of host frames, `lanes` how many numbers a row has. The sine and
 // arctangent numbers travel with them.
-#[derive(Drop)]
+#[derive(Clone, Copy)]
 pub struct Settings {
     pub slot0: Slot,
     pub slot1: Slot,
@@ -16,7 +16,7 @@ pub struct Settings {
 }
 
 // Host frames of a block: the first, and how many.
-#[derive(Drop)]
+#[derive(Clone, Copy)]
 pub struct Range {
     pub first: u32,
     pub count: u32,

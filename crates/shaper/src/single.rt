@@ -15,7 +15,7 @@ use reads::LaneReads;
 
 // The number of a refusal, 0 where there is none, the range's frames, and the list.
 #[repr(C)]
-#[derive(Drop)]
+#[derive(Clone, Copy)]
 pub struct ReadsAnswer {
     pub number: u32,
     pub frames: u32,

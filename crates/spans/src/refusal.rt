@@ -9,7 +9,7 @@ use limits::{
 };
 
 // The lengths of what `prepare` is lent.
-#[derive(Drop)]
+#[derive(Clone, Copy)]
 pub struct PrepareLengths {
     pub controls: ControlLengths,
     pub curve: usize,

@@ -20,14 +20,14 @@ use voice::{FM_MAX_HZ, PD_MAX_CYCLES, fm_exponential, in_phase};
 const TWO_32: f32 = 4_294_967_296.0;
 
 // The least and the largest amount, in percent.
-#[derive(Drop)]
+#[derive(Clone, Copy)]
 pub struct Bounds {
     pub low: f32,
     pub high: f32,
 }
 
 // A source's peak, its steepest step, and its last number.
-#[derive(Drop)]
+#[derive(Clone, Copy)]
 pub struct Swing {
     pub peak: f32,
     pub step: f32,
@@ -36,7 +36,7 @@ pub struct Swing {
 
 // The steepest slope of slot 1, of both slots, and what the inter-oscillator modes add, in words a
 // frame.
-#[derive(Drop)]
+#[derive(Clone, Copy)]
 pub struct Span {
     pub inner: f32,
     pub stretch: f32,

@@ -5,7 +5,7 @@ ghost use Rattle.text.specs.Scan.{start as Scan·start, failed as Scan·failed, 
 ghost use Rattle.text.specs.Scan.{with_number, scan_byte, at_end};
 
 // A line of seven numbers; or none, and then zeros.
-#[derive(Drop)]
+#[derive(Clone, Copy)]
 pub struct Seven {
     pub good: bool,
     pub values: [u32; 7],
@@ -13,7 +13,7 @@ pub struct Seven {
 
 // What a line's bytes so far are: whether all is well; the words that are done, and 1 where one more has begun, else
 // 0; the numbers of all these, and zeros.
-#[derive(Drop)]
+#[derive(Clone, Copy)]
 struct Scan {
     good: bool,
     done: usize,

@@ -7,7 +7,7 @@ ghost use Rattle.text.specs.Lines.{reading, unread, with_byte, begun_length, lef
 const KEPT: usize = 255;
 
 // How many of the buffer's bytes are the line's, and whether its end has come. A length above 255 counts as 255.
-#[derive(Drop)]
+#[derive(Clone, Copy)]
 pub struct Line {
     pub length: usize,
     pub ended: bool,

@@ -72,7 +72,7 @@ fn range_run(
 }
 
 // The hash after a call, and where the next one's range starts.
-#[derive(Drop)]
+#[derive(Clone, Copy)]
 struct Done {
     hash: u64,
     first: u32,

@@ -6,7 +6,7 @@ use limits::ControlLengths;
 use spans::refusal::{PrepareLengths, prepare_refused};
 
 // What a call is asked for, and its number.
-#[derive(Drop)]
+#[derive(Clone, Copy)]
 struct Boundary {
     mode: u32,
     lanes: u32,

@@ -29,7 +29,7 @@ use picture_answers::pictures::picture_hash;
 // The lines that are read at the most.
 const LINES: usize = 100000;
 
-#[derive(Drop)]
+#[derive(Clone, Copy)]
 struct Tally {
     passed: u64,
     total: u64,

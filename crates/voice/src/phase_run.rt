@@ -23,21 +23,21 @@ pub const PD_MAX_CYCLES: f32 = 0.5;
 const TRANSITION: f32 = 2.0;
 
 // The words that a slot adds to the read, and its FM carry after it.
-#[derive(Drop)]
+#[derive(Clone, Copy)]
 pub struct Offset {
     pub word: u32,
     pub carry: f32,
 }
 
 // A list moved on by a slot's offset, and the slot's carry.
-#[derive(Drop)]
+#[derive(Clone, Copy)]
 pub struct Moved {
     pub list: ReadList,
     pub carry: f32,
 }
 
 // The list that goes out, and both slots' carry.
-#[derive(Drop)]
+#[derive(Clone, Copy)]
 pub struct Reads {
     pub reads: LaneReads,
     pub fm0: f32,

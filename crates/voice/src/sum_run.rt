@@ -13,7 +13,7 @@ use reads::read_cycle;
 use wave::is_modulated;
 
 // How a slot moves the reads: by `word`, if at all; and its FM carry after it.
-#[derive(Drop)]
+#[derive(Clone, Copy)]
 pub struct Slide {
     pub moves: bool,
     pub word: u32,
@@ -21,7 +21,7 @@ pub struct Slide {
 }
 
 // The sum of a lane's reads, and both slots' FM carry.
-#[derive(Drop)]
+#[derive(Clone, Copy)]
 pub struct Summed {
     pub x: f32,
     pub fm0: f32,

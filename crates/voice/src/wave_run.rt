@@ -12,7 +12,7 @@ use phase::Slot;
 use wave::{Filtered, Setting, Svf, in_wave, is_level, level};
 
 // The sample that goes out, and the state after it.
-#[derive(Drop)]
+#[derive(Clone, Copy)]
 pub struct Shaped {
     pub y: f32,
     pub pairs0: Svf,

@@ -15,7 +15,7 @@ const SQRT_2: f32 = 1.4142135;
 // One lane of a filter's state. A distortion keeps its last input, after the drive, and that input's
 // integral in it.
 #[repr(C)]
-#[derive(Drop)]
+#[derive(Clone, Copy)]
 pub struct Svf {
     pub ic1: f32,
     pub ic2: f32,
@@ -23,7 +23,7 @@ pub struct Svf {
 
 // A shaped sample and the state after it, which stands first so that it is copied in one piece.
 #[repr(C)]
-#[derive(Drop)]
+#[derive(Clone, Copy)]
 pub struct Filtered {
     pub state: Svf,
     pub y: f32,

@@ -11,7 +11,7 @@ use modes::{ModulatedFact, StageFact};
 
 // What a slot does to one sample: nothing, a filter with harmonic and damping, a curve with amount and
 // drive, a level with amount and source.
-#[derive(Drop)]
+#[derive(Clone, Copy)]
 pub enum Setting {
     Nothing,
     Filter(f32, f32),
