@@ -1,5 +1,7 @@
 // The oracle's stored answers about leaves, read lists, slots of the wave stage and decimations, made
 // again: for the program `vectors`.
+#![tactic(auto)]
+
 pub mod answer;
 pub mod cells;
 pub mod decimations;

@@ -1,5 +1,7 @@
 // The run of any range of a block: a read list, the sum of its reads and the shaped sample for each
 // rendered frame of each active lane, the decimation, and the copy to the range's output rows.
+#![tactic(auto)]
+
 pub mod refusal;
 pub mod run;
 pub mod settings;

@@ -1,5 +1,7 @@
 // The card's calls for its C firmware, on numbers and slices. A slice is a pointer and a count.
 // include/shaper.h has the C side.
+#![tactic(auto)]
+
 pub mod decimation;
 pub mod either;
 pub mod lane;

@@ -1,5 +1,7 @@
 // Where a render's amounts and sources come from: `Amounts` of mod.rs, over lent slices. An empty slice
 // is an absent one.
+#![tactic(auto)]
+
 ghost use Rattle.std.specs.Prelude.{◌≡◌, ◌+◌, ◌*◌, ◌<◌, ◌≤◌, length, get_or};
 ghost use Rattle.std.specs.Float.{nan};
 ghost use Rattle.grid.specs.Cells.{column};

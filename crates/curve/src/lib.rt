@@ -1,5 +1,7 @@
 // The remap curve of curve.rs, rendered by the caller to a lent table: its value and its steepest
 // slope. A table below 1,025 entries is refused, with number 7; entries past those are not read.
+#![tactic(auto)]
+
 pub mod table;
 
 ghost use Rattle.std.specs.Prelude.{◌≡◌};

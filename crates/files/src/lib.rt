@@ -1,4 +1,6 @@
 // Patch files: reading them, writing them, and when two hold the same patch.
+#![tactic(auto)]
+
 pub mod answers;
 pub mod patches;
 pub mod reader;

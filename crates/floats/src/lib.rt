@@ -1,5 +1,7 @@
 // An f32 by its value and its bit pattern: what lanes.rs takes from the machine or the standard
 // library, worked out by the program and equal to a definition for every f32.
+#![tactic(auto)]
+
 pub mod cast;
 pub mod pattern;
 pub mod power;

@@ -1,4 +1,6 @@
 // The layout of every lent buffer: rows of n numbers, one for each lane.
+#![tactic(auto)]
+
 ghost use Rattle.std.specs.Prelude.{◌≡◌, ◌+◌, ◌*◌, ◌<◌, ◌≤◌};
 
 // Where a lane's number in a row lies. The bounds rule out that the product wraps, here and once.

@@ -1,5 +1,7 @@
 // The half-band decimator of halfband.rs, one lane at a time: `Stage::scalar` under
 // `Decimator::process`. Every operation is rounded by itself.
+#![tactic(auto)]
+
 pub mod cascade;
 pub mod design;
 pub mod refusal;

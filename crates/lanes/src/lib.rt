@@ -1,5 +1,7 @@
 // The arithmetic that the shapers are written in: lanes.rs's scalar path, f32 by f32, in the Rust's
 // names. `sqrt`, `floor`, `abs`, `sign_bit`, `exp2` and `split` are of crate `floats`.
+#![tactic(auto)]
+
 pub mod lane;
 pub mod maths;
 pub mod word;

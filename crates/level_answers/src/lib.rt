@@ -1,3 +1,5 @@
 // The oracle's stored answers about the amount for a level, made again: for the program `vectors`. A library
 // of its own so that it is checked beside the crates that render a block.
+#![tactic(auto)]
+
 pub mod searches;

@@ -1,5 +1,7 @@
 // Which amount gives this level: the least amount of a slot, in hundredths of a percent, for which plain
 // `distort` lands within a tolerance of the wanted output.
+#![tactic(auto)]
+
 pub mod search;
 
 ghost use Rattle.std.specs.Prelude.{◌≡◌};

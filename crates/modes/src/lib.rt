@@ -1,5 +1,7 @@
 // The mode facts of mod.rs, each one decision over the mode number, 0 to 69 in the order of `Mode`; the numbers by name.
 // A mode above 69 is refused, with number 1 (specs/Says.antt).
+#![tactic(auto)]
+
 pub mod modulation;
 pub mod numbers;
 pub mod shaping;

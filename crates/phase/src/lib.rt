@@ -1,4 +1,6 @@
 // The maps of phase.rs: a slot's map takes each read of a list to one or two reads, at most four in all.
+#![tactic(auto)]
+
 pub mod edge;
 pub mod map;
 pub mod power;

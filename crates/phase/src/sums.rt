@@ -43,7 +43,7 @@ fn products(cycle: &[f32], moves: bool, offset: u32, b: Branches) -> f32
 
 // The reads of one map; the gains don't count if the read that it was given is `plain` and it makes one
 // with no gain of its own.
-fn sum_one_lem(cycle: &[f32], moves: bool, offset: u32, plain: bool, b: Branches) -> f32
+fn sum_one(cycle: &[f32], moves: bool, offset: u32, plain: bool, b: Branches) -> f32
     requires { 2048 ≤ length cycle.now }
     ensures { result ≡ sum_one cycle.now moves offset plain b }
 {
@@ -114,7 +114,7 @@ pub fn mapped_sum(
     let reads = map_if(numbers, curve, on1, slot1, amount1, power1, half1, word);
     let kind = reads.kind;
     if !on0 {
-        return sum_one_lem(cycle, moves, offset, true, reads);
+        return sum_one(cycle, moves, offset, true, reads);
     }
     let first = map(
         numbers,
@@ -139,7 +139,7 @@ pub fn mapped_sum(
         );
         return sum_two(cycle, moves, offset, first, second);
     }
-    sum_one_lem(cycle, moves, offset, kind == KIND_ONE, first)
+    sum_one(cycle, moves, offset, kind == KIND_ONE, first)
 }
 
 // The same with the product of every read, also of one whose gain does not count, and with no reads that

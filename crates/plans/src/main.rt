@@ -1,12 +1,14 @@
 // What blocks need, for planners: reads up to 1,000 lines of standard input, each of seven decimal numbers (lanes,
 // active lanes, factor, frames and the three designs' counts), and writes a table of what each block needs.
+#![tactic(auto)]
+
 mod planning;
 mod row;
 mod table;
 
 use libc::{STDIN_FILENO, STDOUT_FILENO};
 use table::{print_heading, print_line};
-use text::{Line, left_over_lem, line_bytes, no_line, with_byte};
+use text::{Line, left_over, line_bytes, no_line, with_byte};
 
 // The lines that are read at the most.
 const LINES: u64 = 1000;
@@ -95,7 +97,7 @@ fn finish(buffer: &[u8; 255], input: Input) {
     let line = input.line;
     let lines = input.lines;
     if lines < LINES {
-        if left_over_lem(line) {
+        if left_over(line) {
             print_line(lines + 1, line_bytes(buffer, line));
         }
     }

@@ -1,4 +1,6 @@
 // The picture of one shaped cycle, for a panel: `Shapers::preview` of mod.rs.
+#![tactic(auto)]
+
 pub mod drawing;
 pub mod filtering;
 pub mod points;

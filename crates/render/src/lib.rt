@@ -1,5 +1,7 @@
 // The rendered frames of one lane over a range of a block: `render_oversampled` of mod.rs up to the
 // decimation, for one lane.
+#![tactic(auto)]
+
 pub mod drives;
 pub mod frame;
 pub mod frames;

@@ -1,5 +1,7 @@
 // The shaper's calls about a single lane at a single rendered frame, over lent buffers: `reads_lane`
 // and `shape_at_lane` of mod.rs.
+#![tactic(auto)]
+
 pub mod cells;
 pub mod lane;
 pub mod refusal;

@@ -1,5 +1,7 @@
 // `stretch` of phase.rs, the steepest slope that a mode reads the cycle with, and the strengths that maps
 // and slopes share.
+#![tactic(auto)]
+
 pub mod steepest;
 pub mod strengths;
 

@@ -1,5 +1,7 @@
 // The spans of a block: how steep each lane reads in each sub-block of 32 host frames. `prepare` of
 // mod.rs makes them, `PhaseRun::stretch` reads them.
+#![tactic(auto)]
+
 pub mod asked;
 pub mod blocks;
 pub mod refusal;

@@ -1,6 +1,8 @@
 // Text for the programs: lines read byte by byte, and the decimal numbers on a line.
+#![tactic(auto)]
+
 pub mod decimal;
 pub mod lines;
 
 pub use decimal::{Seven, seven_of};
-pub use lines::{Line, left_over_lem, line_bytes, no_line, with_byte};
+pub use lines::{Line, left_over, line_bytes, no_line, with_byte};

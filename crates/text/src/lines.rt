@@ -1,5 +1,5 @@
 // Lines from bytes. A program lends a buffer of 255 bytes and gives each byte of its input to `with_byte`;
-// where a line has ended, or is `left_over_lem` at the input's end, `line_bytes` are its bytes.
+// where a line has ended, or is `left_over` at the input's end, `line_bytes` are its bytes.
 ghost use Rattle.std.specs.Prelude.{◌≡◌, List, ℕ, ◌≤◌};
 ghost use Rattle.text.specs.Lines.{reading, unread, with_byte, begun_length, left_over};
 
@@ -77,7 +77,7 @@ pub fn line_bytes(buffer: &[u8; 255], line: Line) -> &[u8]
 }
 
 // At the input's end: whether a line is left that had no end and is not empty.
-pub fn left_over_lem(line: Line) -> bool
+pub fn left_over(line: Line) -> bool
     ensures { result ≡ left_over line }
 {
     !line.ended & (0 < line.length)

@@ -3,6 +3,8 @@
 // lines are those of `leaf_vectors`, `phase_vectors`, `wave_vectors`, `decimate_vectors`, `single_vectors`,
 // `block_vectors`, `picture_vectors`, `file_vectors` and `level_vectors` of oracle/programs, which has their format; the
 // last two are models'. Runs of the block run are replayed twice, the second time by lanes' calls.
+#![tactic(auto)]
+
 mod blocks;
 mod boundaries;
 mod by_lanes;

@@ -1,5 +1,7 @@
 // The two stages of a render for one lane at one rendered frame, `PhaseRun` and `WaveRun` of mod.rs,
 // with the lane's state in and out by value.
+#![tactic(auto)]
+
 pub mod control;
 pub mod phase_run;
 pub mod power;

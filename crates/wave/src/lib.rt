@@ -1,5 +1,7 @@
 // The wave stage of wave.rs: the filters and the distortions that bend the value after the read, and
 // what a slot does to one sample.
+#![tactic(auto)]
+
 pub mod curves;
 pub mod filters;
 pub mod integrals;

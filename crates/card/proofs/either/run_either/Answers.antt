@@ -1,0 +1,144 @@
+-- `either::run_either` meets its contract: one test, and what is accepted is run.
+use mathlib.Core.Path.{◌≡◌, refl, sym, ◌∙◌}
+use Prim.Native.Nat.{ℕ}
+use lib.ListN.{length}
+use Rattle.halfband.specs.Floats.{designs_of}
+use Rattle.shaper.specs.declared.settings.Range.{Range}
+use Rattle.render.specs.declared.state.BlockSettings.{BlockSettings}
+use Rattle.render.specs.Lane.{Lent}
+use Rattle.share.specs.Share.{Buffers, buffers}
+use Rattle.render.specs.Promises.{lent}
+use Rattle.block.specs.declared.refusal.CallNumbers.{CallNumbers}
+use Rattle.block.specs.declared.refusal.ReadLengths.{ReadLengths}
+use Rattle.block.specs.Call.{call_numbers, read_lengths, write_lengths}
+use Rattle.block.specs.Numbers.{settings_of, range_of}
+use Rattle.block.proofs.RefusalLaws.{passed, by_parts, whole_slices}
+use Rattle.block.proofs.SharedLaws.{shared_by}
+use Rattle.lane_run.specs.Either.{either_refusal}
+use Rattle.lane_run.proofs.LaneLaws.{either_passed, either_active, either_taken, either_refused, either_shared, taken_by, shared_at}
+use Rattle.card.proofs.either.run_either.Goals as goal
+
+-- ---- the places on the way: from each call back to the one before, and from the first to the entry
+
+abbrev start : goal.After-read_lengths → goal.Start
+start c = c.before.before.before.before.before.before.before.before.before.before.before.before.before.before.before.before.before.before.before.before
+
+abbrev measured : goal.After-write_lengths → goal.After-read_lengths
+measured c = c.before.before.before.before.before.before.before
+
+abbrev gathered : goal.After-refused_either-number → goal.After-write_lengths
+gathered c = c.before
+
+abbrev tested : goal.After-settings_of-b → goal.Else-number-ne0
+tested c = c.before
+
+abbrev settled : goal.After-interval_of-asked → goal.After-settings_of-b
+settled c = c.before
+
+abbrev lends : goal.After-run_lanes-arg-6-1 → goal.After-interval_of-asked
+lends c = c.before.before.before.before.before.before
+
+abbrev called : goal.After-run_lanes → goal.After-run_lanes-arg-6-1
+called c = c.before
+
+abbrev ran : goal.After-slice_known-12-1 → goal.After-run_lanes
+ran c = c.before.before.before.before.before.before.before.before.before.before.before.before
+
+abbrev entry : goal.After-refused_either-number → goal.Start
+entry c = start (measured (gathered c))
+
+-- ---- the test
+
+-- the settings and the range; what is lent to read, and to write
+abbrev settings : goal.Start → BlockSettings
+settings c =
+    let a = c.args in
+    settings_of a.mode0 a.mode1 a.character0 a.character1 a.factor a.lanes a.frames a.rate a.count0 a.count1 a.count2 a.coefs.now a.numbers.now
+
+abbrev range : goal.Start → Range
+range c = range_of c.args.first c.args.count
+
+abbrev reads : goal.Start → Lent
+reads c =
+    let a = c.args in
+    lent a.base0.now a.base1.now a.mod0.now a.mod1.now a.source0.now a.source1.now a.curve.now a.cycle.now a.words.now a.steps.now a.inner.now
+
+abbrev writes : goal.Start → Buffers
+writes c = let a = c.args in buffers a.output.now a.work.now a.pairs.now a.fm.now a.last.now a.dec.now
+
+abbrev numbers : goal.Start → CallNumbers
+numbers c = call_numbers (settings c) (range c) c.args.active
+
+abbrev lengths : goal.Start → ReadLengths
+lengths c = read_lengths (length c.args.coefs.now) (length c.args.numbers.now) (reads c)
+
+abbrev number : goal.Start → ℕ
+number c = either_refusal c.args.one c.args.lane (numbers c) (lengths c) (write_lengths (writes c))
+
+-- the settings have the numbers that came one by one
+by-table : (c : goal.After-refused_either-number) → c.refused_either-number.result ≡ number (entry c)
+unfolding settings_of designs_of
+by-table c =
+    let w = gathered c in
+    by_parts (either_refusal (entry c).args.one (entry c).args.lane) refl (measured w).read_lengths.ensures w.write_lengths.ensures c.refused_either-number.ensures
+
+none : (c : goal.Else-number-ne0) → number (entry c.before) ≡ 0
+none c = sym (by-table c.before) ∙ c.if-number-ne0.false
+
+pub returns-then-number-ne0 : goal.returns-then-number-ne0
+returns-then-number-ne0 c =
+    let o = entry c.before in
+    either_refused (settings o) (range o) o.args.active o.args.lane (length o.args.coefs.now) (length o.args.numbers.now) (reads o) (writes o) o.args.one _
+    (by-table c.before) c.if-number-ne0.true
+
+-- ---- the run
+
+-- PORT: a record of ['fact_1', 'fact_2']
+pub settings_of-b-requires : goal.settings_of-b-requires
+settings_of-b-requires c =
+    let o = entry c.before in
+    whole_slices (numbers o) (lengths o) (passed (numbers o) (lengths o) _ (either_passed (numbers o) o.args.lane _ _ o.args.one (none c))).read
+
+pub interval_of-asked-requires : goal.interval_of-asked-requires
+interval_of-asked-requires c =
+    let e = tested c in
+    let o = entry e.before in
+    either_active (settings o) (range o) o.args.active o.args.lane (length o.args.coefs.now) (length o.args.numbers.now) (reads o) (writes o) o.args.one (none e)
+
+-- PORT: a record of ['fact_1', 'fact_2']
+pub run_lanes-requires : goal.run_lanes-requires
+run_lanes-requires c =
+    let i = lends c in
+    let s = settled i in
+    let e = tested s in
+    let o = entry e.before in
+    taken_by s.settings_of-b.ensures i.interval_of-asked.ensures
+    (either_taken (settings o) (range o) o.args.active o.args.lane (length o.args.coefs.now) (length o.args.numbers.now) (reads o) (writes o) o.args.one (none e))
+
+pub returns : goal.returns
+returns c =
+    let did = ran c in
+    let i = lends (called did) in
+    let s = settled i in
+    let e = tested s in
+    let o = entry e.before in
+    either_shared (settings o) (range o) o.args.active o.args.lane (length o.args.coefs.now) (length o.args.numbers.now) (reads o) (writes o) o.args.one (none e)
+    (shared_at i.interval_of-asked.ensures (shared_by s.settings_of-b.ensures did.run_lanes.ensures))
+
+pub shape_of-output : goal.shape_of-output
+shape_of-output c = (ran c).run_lanes.ensures.sizes.output
+
+pub shape_of-work : goal.shape_of-work
+shape_of-work c = (ran c).run_lanes.ensures.sizes.work
+
+pub shape_of-pairs : goal.shape_of-pairs
+shape_of-pairs c = (ran c).run_lanes.ensures.sizes.pairs
+
+pub shape_of-fm : goal.shape_of-fm
+shape_of-fm c = (ran c).run_lanes.ensures.sizes.fm
+
+pub shape_of-last : goal.shape_of-last
+shape_of-last c = (ran c).run_lanes.ensures.sizes.last
+
+pub shape_of-dec : goal.shape_of-dec
+shape_of-dec c = (ran c).run_lanes.ensures.sizes.dec

@@ -1,0 +1,15 @@
+-- `preparation::shaper_prepare` meets its contract: it is the call's own.
+
+use Rattle.card.proofs.preparation.shaper_prepare.Goals as goal
+
+pub shape_of-inner : goal.shape_of-inner
+shape_of-inner c = c.before.before.before.before.before.before.prepare.ensures.inner
+
+pub shape_of-stretch : goal.shape_of-stretch
+shape_of-stretch c = c.before.before.before.before.before.before.prepare.ensures.stretch
+
+pub shape_of-add : goal.shape_of-add
+shape_of-add c = c.before.before.before.before.before.before.prepare.ensures.add
+
+pub returns : goal.returns
+returns c = c.before.before.before.before.before.before.prepare.ensures

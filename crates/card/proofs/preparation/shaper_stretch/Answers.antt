@@ -1,0 +1,6 @@
+-- `preparation::shaper_stretch` meets its contract: it is the call's own.
+
+use Rattle.card.proofs.preparation.shaper_stretch.Goals as goal
+
+pub returns : goal.returns
+returns c = c.stretch.ensures

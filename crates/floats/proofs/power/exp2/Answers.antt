@@ -1,0 +1,88 @@
+-- `floats::exp2` meets its contract: what is read from the pattern of x is x, and `proofs/PowerCases.antt` has the definition in each case.
+use mathlib.Core.Path.{◌≡◌, refl, sym, ap, ◌∙◌, subst}
+use mathlib.Core.Bool.{Bool, true, false, not}
+use Prim.Native.Nat.{ℕ}
+use native.Mathlib.Omega.{arith}
+use lib.Dec.{T}
+use lib.IntN.{pos}
+use lib.Ieee.{Float, inf, fin, binary32, div, neg, of_bits, is_nan, le, lt}
+use Rattle.floats.specs.Exp2.{exp2_of, pow_at, scaled, one28, minus126}
+use Rattle.floats.proofs.Nan.{is_nan_lem, no_nan, no_nan_T}
+use Rattle.floats.proofs.Patterns.{bits_no_nan}
+use Rattle.floats.proofs.Read.{bits_of, read}
+use Rattle.floats.proofs.PowerCases.{of_nan, of_large, of_low, of_middle, Middle, middle}
+use Rattle.floats.proofs.power.exp2.Goals as goal
+
+abbrev bits : goal.Start → ℕ
+bits c = bits_of c.args.x
+
+reads : (c : goal.Start) → of_bits binary32 (bits c) ≡ c.args.x
+reads c = read c.args.x c.well-formed.1.0.1
+
+-- the program's constants, by their patterns
+is-128 : of_bits binary32 1124073472 ≡ one28
+unfolding of_bits
+is-128 = refl
+
+is-minus-126 : neg (of_bits binary32 1123811328) ≡ minus126
+unfolding of_bits neg
+is-minus-126 = refl
+
+one-by-zero : div binary32 (of_bits binary32 1065353216) (of_bits binary32 0) ≡ inf false
+unfolding div of_bits
+one-by-zero = refl
+
+is_zero : of_bits binary32 0 ≡ fin false 0 (pos 0)
+unfolding of_bits
+is_zero = refl
+
+-- the tests, at the definition's numbers
+large : (x : Float) (t : Bool) → le (of_bits binary32 1124073472) x ≡ t → le one28 x ≡ t
+large x t h = subst (λ (y : Float). le y x ≡ t) is-128 h
+
+low : (x : Float) (t : Bool) → lt x (neg (of_bits binary32 1123811328)) ≡ t → lt x minus126 ≡ t
+low x t h = subst (λ (y : Float). lt x y ≡ t) is-minus-126 h
+
+mid : (c : goal.Else-x-3) → Middle (bits c.before.before.before)
+mid c =
+    let s = c.before.before.before in
+    let r = sym (reads s) in
+    middle (bits s)
+    (subst (λ (y : Float). is_nan y ≡ false) r (no_nan s.args.x c.before.before.if-x.false))
+    (subst (λ (y : Float). le one28 y ≡ false) r (large s.args.x false c.before.if-x-2.false))
+    (subst (λ (y : Float). lt y minus126 ≡ false) r (low s.args.x false c.if-x-3.false))
+
+pub returns-then-x : goal.returns-then-x
+returns-then-x c = subst (λ (x : Float). x ≡ exp2_of x) (sym (is_nan_lem c.before.args.x c.if-x.true)) of_nan
+
+pub returns-then-x-2 : goal.returns-then-x-2
+returns-then-x-2 c =
+    let x = c.before.before.args.x in
+    one-by-zero ∙ sym (of_large x (no_nan x c.before.if-x.false) (large x true c.if-x-2.true))
+
+pub returns-then-x-3 : goal.returns-then-x-3
+returns-then-x-3 c =
+    let x = c.before.before.before.args.x in
+    is_zero ∙ sym (of_low x (no_nan x c.before.before.if-x.false) (large x false c.before.if-x-2.false) (low x true c.if-x-3.true))
+
+pub float_to_bits-x : goal.float_to_bits-x
+float_to_bits-x c = no_nan_T c.before.before.before.args.x c.before.before.if-x.false
+
+pub steps-requires : goal.steps-requires
+steps-requires c = (mid c).most
+
+pub power_bits-requires : goal.power_bits-requires
+power_bits-requires c = record {
+      fact_1 = c.before.before.before.before.requires;
+      fact_2 = omega (arith, (mid c.before).low, (mid c.before).high, c.steps.ensures);
+    }
+
+pub float_from_bits-result : goal.float_from_bits-result
+float_from_bits-result c = subst (λ (t : Bool). T (not t)) (sym (bits_no_nan c.power_bits.result c.power_bits.ensures.0)) tt
+
+pub returns : goal.returns
+returns c =
+    let x = c.before.before.before.before.before.args.x in
+    c.power_bits.ensures.1
+    ∙ ap pow_at (c.before.steps.ensures ∙ sym (mid c.before.before).is ∙ ap scaled (reads c.before.before.before.before.before))
+    ∙ sym (of_middle x (no_nan x c.before.before.before.before.if-x.false) (large x false c.before.before.before.if-x-2.false) (low x false c.before.before.if-x-3.false))

@@ -1,0 +1,13 @@
+-- `floats::floor` meets its contract. `unfolding of_bits` makes the code's constants the numbers of proofs/SmallFloors.antt.
+use mathlib.Core.Path.{◌∙◌}
+use lib.Ieee.{of_bits}
+use Rattle.floats.proofs.SmallFloors.{found_small}
+use Rattle.floats.proofs.Read.{held}
+use Rattle.floats.proofs.whole.floor.Goals as goal
+
+pub returns-then-x-2 : goal.returns-then-x-2
+unfolding of_bits
+returns-then-x-2 c =
+    let i = c.before in
+    let s = i.before.before in
+    c.from_nearest.ensures ∙ found_small s.args.x (held s.args.x s.well-formed.0.1) i.before.if-x.true i.if-x-2.true

@@ -1,0 +1,18 @@
+-- `design::design_at` meets its contract.
+use mathlib.Core.Path.{refl}
+use Prim.Native.Nat.{◌-◌}
+use native.Mathlib.Omega.{arith}
+use Rattle.halfband.proofs.DesignLaws.{copied}
+use Rattle.halfband.proofs.FillLaws.{filled_none, filled_more}
+use Rattle.halfband.proofs.design.design_at.Goals as goal
+
+pub loop-i-preserved : goal.loop-i-preserved
+loop-i-preserved c =
+    let here = c.before.before in
+    (omega arith, filled_more _ _ _ _ _ (omega arith) refl here.loop-i.invariant.1)
+
+pub returns : goal.returns
+returns c = copied _ _ _ _ _ c.before.before.requires (omega arith) c.before.loop-i.invariant.1
+
+pub loop-i-init : goal.loop-i-init
+loop-i-init c = (omega arith, filled_none _ _ _ refl)

@@ -1,0 +1,35 @@
+-- `stage::store` meets its contract.
+use mathlib.Core.Path.{◌≡◌, refl}
+use Prim.Native.Nat.{◌*◌, ◌-◌, ◌<◌}
+use native.Mathlib.Omega.{arith}
+use lib.ListN.{length}
+use Rattle.halfband.proofs.LocalLaws.{cell_in, stored_none, stored_more}
+use Rattle.halfband.proofs.stage.store.Goals as goal
+
+at_in : (c : goal.After-place-at) → c.place-at.result < length c.before.before.loop-i.state
+at_in c =
+    let s = c.before.before.before.before in
+    rw (c.place-at.ensures, c.before.before.loop-i.invariant.2.size) (cell_in _ _ c.before.before.loop-i.i _ _ s.requires.1 (omega arith))
+
+pub loop-i-preserved : goal.loop-i-preserved
+loop-i-preserved c =
+    let here = c.before.before.before in (
+      omega arith,
+      here.loop-i.invariant.1,
+      rw c.before.place-at.ensures
+          (stored_more _ _ _ _ _ _ _ here.before.before.requires.1.lane (omega arith) (rw c.before.place-at.ensures at (at_in c.before)) here.loop-i.invariant.2),
+    )
+
+pub returns : goal.returns
+returns c =
+    let e : c.before.loop-i.i ≡ 2 * c.before.before.before.args.count = omega arith in
+    rw (← e) c.before.loop-i.invariant.2
+
+pub loop-i-init : goal.loop-i-init
+loop-i-init c = (omega arith, refl, stored_none _ _ _ _ _)
+
+pub offset_bounds-state-at : goal.offset_bounds-state-at
+offset_bounds-state-at c = omega (arith, at_in c.before)
+
+pub bounds-state-at : goal.bounds-state-at
+bounds-state-at c = at_in c.before

@@ -1,0 +1,48 @@
+-- `lanes::lookup` meets its contract: its index is below 1,024.
+use Rattle.std.proofs.Common.{◌≤◌, arith}
+use Rattle.floats.specs.Steps.{steps}
+use Rattle.lanes.specs.Word.{lookup_of}
+use Rattle.lanes.proofs.Index.{index_le}
+use Rattle.lanes.proofs.word.lookup.Goals as goal
+
+below : (c : goal.After-cast_usize-i) → c.cast_usize-i.result ≤ 1023
+below c = rw (c.cast_usize-i.ensures, c.before.min-whole.ensures) (index_le c.before.before.floor.result)
+
+pub returns : goal.returns
+unfolding lookup_of
+returns c =
+    let i = c.before.before.before in
+    search (steps, i.before.before.before.clamp-at.ensures, i.before.before.floor.ensures, i.before.min-whole.ensures, i.cast_usize-i.ensures) depth 12
+
+pub clamp-at-requires : goal.clamp-at-requires
+clamp-at-requires c = tt
+
+pub floor-requires : goal.floor-requires
+floor-requires c = tt
+
+pub min-whole-requires : goal.min-whole-requires
+min-whole-requires c = tt
+
+pub cast_usize-i-requires : goal.cast_usize-i-requires
+cast_usize-i-requires c = tt
+
+pub overflow_add-result : goal.overflow_add-result
+overflow_add-result c = omega (arith, below c)
+
+pub offset_bounds-table-i : goal.offset_bounds-table-i
+offset_bounds-table-i c = omega (arith, below c)
+
+pub bounds-table-i : goal.bounds-table-i
+bounds-table-i c = omega (arith, below c.before)
+
+pub offset_bounds-table-i-2 : goal.offset_bounds-table-i-2
+offset_bounds-table-i-2 c = omega (arith, below c.before)
+
+pub bounds-table-i-2 : goal.bounds-table-i-2
+bounds-table-i-2 c = omega (arith, below c.before.before)
+
+pub offset_bounds-table-i-3 : goal.offset_bounds-table-i-3
+offset_bounds-table-i-3 c = omega (arith, below c.before.before)
+
+pub bounds-table-i-3 : goal.bounds-table-i-3
+bounds-table-i-3 c = omega (arith, below c.before.before.before)

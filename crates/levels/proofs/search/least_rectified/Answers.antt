@@ -1,0 +1,32 @@
+-- `search::least_rectified` meets its contract. The loop's invariant: no smaller amount serves.
+use mathlib.Core.Path.{◌≡◌, sym, ◌∙◌}
+use mathlib.Core.Bool.{false}
+use Prim.Native.Nat.{◌-◌}
+use native.Mathlib.Omega.{arith}
+use Rattle.limits.proofs.SearchLaws.{none_yet, none_more, found_least, none_past}
+use Rattle.levels.specs.Levels.{amounts}
+use Rattle.levels.specs.Parts.{rectified_at}
+use Rattle.levels.proofs.search.least_rectified.Goals as goal
+
+-- what is tested
+tested : (c : goal.After-is_within) → let l = c.before.before.before.before.loop-hundredths in let a = c.before.before.before.before.before.args in rectified_at a.sample a.wanted a.tolerance l.hundredths ≡ c.is_Within.result
+unfolding rectified_at
+tested c = rw (← c.before.before.amount_of.ensures, ← c.before.blend_rectified-out.ensures) (sym c.is_Within.ensures)
+
+pub returns-then-is_within : goal.returns-then-is_within
+returns-then-is_within c =
+    let l = c.before.before.before.before.before.loop-hundredths in
+    found_least _ amounts _ (omega arith) l.invariant.1 (tested c.before ∙ c.if-is_within.true)
+
+pub loop-hundredths-preserved : goal.loop-hundredths-preserved
+loop-hundredths-preserved c =
+    let l = c.before.before.before.before.before.loop-hundredths in
+    (omega arith, none_more _ _ l.invariant.1 (tested c.before ∙ c.if-is_within.false))
+
+pub returns : goal.returns
+returns c =
+    let e : c.before.loop-hundredths.hundredths ≡ amounts = omega arith in
+    e ∙ none_past _ _ amounts c.before.loop-hundredths.invariant.1 (omega arith)
+
+pub loop-hundredths-init : goal.loop-hundredths-init
+loop-hundredths-init c = (omega arith, none_yet _)

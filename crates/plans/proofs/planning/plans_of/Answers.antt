@@ -1,0 +1,7 @@
+-- `plans::planning::plans_of` meets its contract.
+use Rattle.plans.specs.Planning.{plans_of}
+use Rattle.plans.proofs.planning.plans_of.Goals as goal
+
+pub returns : goal.returns
+unfolding plans_of
+returns c = rw (c.plan_of-frame.ensures, c.before.one_frame.ensures, c.before.before.plan_of-block.ensures)

@@ -1,0 +1,15 @@
+-- `points::inner_of` meets its contract.
+use mathlib.Core.Path.{sym, ◌∙◌}
+use Rattle.floats.specs.Steps.{taken, left}
+use Rattle.preview.specs.Points.{inner_of}
+use Rattle.preview.proofs.points.inner_of.Goals as goal
+
+pub returns-then-in_phase : goal.returns-then-in_phase
+unfolding inner_of
+returns-then-in_phase c =
+    let d = c.before.before in
+    rw (taken _ _ (sym d.before.in_phase.ensures ∙ d.if-in_phase.true)) (c.stretch_of.ensures ∙ c.before.steepest_for.ensures.alike _)
+
+pub returns : goal.returns
+unfolding inner_of
+returns c = rw (left _ _ (sym c.before.in_phase.ensures ∙ c.if-in_phase.false))

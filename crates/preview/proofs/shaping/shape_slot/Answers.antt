@@ -1,0 +1,30 @@
+-- `shaping::shape_slot` meets its contract.
+use mathlib.Core.Path.{◌≡◌, sym, ◌∙◌}
+use mathlib.Core.Bool.{true, false, not, ◌&&◌}
+use Rattle.floats.specs.Steps.{taken, left}
+use Rattle.wave.specs.Slot.{in_wave, is_filter}
+use Rattle.preview.specs.Shaping.{has_source, shaped_of}
+use Rattle.preview.proofs.shaping.shape_slot.Goals as goal
+
+-- the slot is drawn
+on : (c : goal.Then-in_wave-has_source) → let m = c.before.before.before.before.args.slot.mode in (in_wave m && not (has_source m)) ≡ true
+on c = rw (← c.before.before.in_wave.ensures, ← c.before.has_source.ensures) c.if-in_wave-has_source.true
+
+pub returns-then-is_filter : goal.returns-then-is_filter
+unfolding shaped_of
+returns-then-is_filter c =
+    let d = c.before.before.before.before in
+    rw (taken _ _ (on d.before.before), taken _ _ (sym d.before.is_filter.ensures ∙ d.if-is_filter.true)) c.before.before.filter_picture.ensures
+
+pub returns-else-is_filter : goal.returns-else-is_filter
+unfolding shaped_of
+returns-else-is_filter c =
+    let d = c.before.before.before.before in
+    rw (taken _ _ (on d.before.before), left _ _ (sym d.before.is_filter.ensures ∙ d.if-is_filter.false)) c.before.before.distort_picture.ensures
+
+pub returns-else-in_wave-has_source : goal.returns-else-in_wave-has_source
+unfolding shaped_of
+returns-else-in_wave-has_source c =
+    let m = c.before.before.before.before.args.slot.mode in
+    let off : (in_wave m && not (has_source m)) ≡ false = rw (← c.before.before.in_wave.ensures, ← c.before.has_source.ensures) c.if-in_wave-has_source.false in
+    rw (left _ _ off)

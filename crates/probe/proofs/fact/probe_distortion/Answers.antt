@@ -1,0 +1,18 @@
+-- `probe::probe_distortion` meets its contract: each case's number is the code of what it says.
+use mathlib.Core.Path.{refl}
+use mathlib.Core.List.{[], ◌∷◌}
+use Rattle.modes.proofs.Arms.{arm, flag_cases}
+use Rattle.probe.specs.Codes.{code_of, flag_code}
+use Rattle.probe.proofs.fact.probe_distortion.Goals as goal
+
+pub distortion-fact-requires : goal.distortion-fact-requires
+distortion-fact-requires c = tt
+
+pub returns-in-Yes : goal.returns-in-Yes
+returns-in-Yes c = arm flag_cases (code_of flag_code) 1 (0 ∷ []) refl _ c.before.in-Refused.keys1 c.before.before.distortion-fact.ensures
+
+pub returns-in-No : goal.returns-in-No
+returns-in-No c = arm flag_cases (code_of flag_code) 0 (1 ∷ []) refl _ c.before.in-Refused.keys2 c.before.before.distortion-fact.ensures
+
+pub returns-in-Refused : goal.returns-in-Refused
+returns-in-Refused c = arm flag_cases (code_of flag_code) 257 (2 ∷ []) refl _ c.before.in-Refused.keys3 c.before.before.distortion-fact.ensures

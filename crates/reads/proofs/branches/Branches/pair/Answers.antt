@@ -1,0 +1,26 @@
+-- `reads::pair` meets its contract.
+use Rattle.floats.specs.Steps.{given, step}
+use Rattle.reads.specs.Reads.{push_pair}
+use Rattle.reads.proofs.Appends.{kind_made}
+use Rattle.reads.proofs.branches.Branches.pair.Goals as goal
+
+-- PORT: parameters ['c', 'out']
+pub returns : goal.returns
+unfolding push_pair
+returns c out =
+    rw (step, given c.before.before.before.before.a_first-mask.ensures, given c.before.before.before.pick_word-first.ensures, given c.before.before.pick_word-second.ensures, given c.before.pick-first_weight.ensures, step, step, step, c.kind_of-kind.ensures) (kind_made _ _ _ _ _ out)
+
+pub a_first-mask-requires : goal.a_first-mask-requires
+a_first-mask-requires c = tt
+
+pub pick_word-first-requires : goal.pick_word-first-requires
+pick_word-first-requires c = tt
+
+pub pick_word-second-requires : goal.pick_word-second-requires
+pick_word-second-requires c = tt
+
+pub pick-first_weight-requires : goal.pick-first_weight-requires
+pick-first_weight-requires c = tt
+
+pub kind_of-kind-requires : goal.kind_of-kind-requires
+kind_of-kind-requires c = tt

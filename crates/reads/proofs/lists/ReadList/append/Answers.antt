@@ -1,0 +1,29 @@
+-- `reads::append` meets its contract.
+use borrow.Author.Tests.{ne_eqb}
+use Rattle.floats.specs.Steps.{◌>>=◌, if◌then◌else◌}
+use Rattle.reads.specs.Branches.{appended}
+use Rattle.reads.proofs.lists.ReadList.append.Goals as goal
+
+pub returns-then-kind-eq-KIND_ONE : goal.returns-then-kind-eq-KIND_ONE
+unfolding appended ◌>>=◌ if◌then◌else◌
+returns-then-kind-eq-KIND_ONE c = rw c.before.if-kind-eq-KIND_ONE.true c.push.ensures
+
+pub returns-then-kind-eq-KIND_BOTH : goal.returns-then-kind-eq-KIND_BOTH
+unfolding appended ◌>>=◌ if◌then◌else◌
+returns-then-kind-eq-KIND_BOTH c = rw (c.before.if-kind-eq-KIND_BOTH.true, c.push-then-kind-eq-KIND_BOTH.ensures, c.before.before.push-one.ensures, c.before.before.before.weighted.ensures)
+
+pub returns-else-kind-eq-KIND_BOTH : goal.returns-else-kind-eq-KIND_BOTH
+unfolding appended ◌>>=◌ if◌then◌else◌
+returns-else-kind-eq-KIND_BOTH c = rw (ne_eqb _ _ c.before.before.before.if-kind-eq-KIND_ONE.false, ne_eqb _ _ c.if-kind-eq-KIND_BOTH.false, c.before.push-one.ensures, c.before.before.weighted.ensures)
+
+pub push-requires : goal.push-requires
+push-requires c = tt
+
+pub weighted-requires : goal.weighted-requires
+weighted-requires c = tt
+
+pub push-one-requires : goal.push-one-requires
+push-one-requires c = tt
+
+pub push-requires-then-kind-eq-KIND_BOTH : goal.push-requires-then-kind-eq-KIND_BOTH
+push-requires-then-kind-eq-KIND_BOTH c = tt

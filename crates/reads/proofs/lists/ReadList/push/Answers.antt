@@ -1,0 +1,29 @@
+-- `reads::push` meets its contract: each count leads to its arm.
+use Prim.Native.Nat.{◌≤◌}
+use native.Mathlib.Omega.{arith}
+use borrow.Author.Tests.{le-ltb}
+use Rattle.reads.specs.Reads.{push_of}
+use Rattle.reads.proofs.lists.ReadList.push.Goals as goal
+
+pub returns-in-0 : goal.returns-in-0
+unfolding push_of
+returns-in-0 c = rw c.in_default.keys1
+
+pub returns-in-1 : goal.returns-in-1
+unfolding push_of
+returns-in-1 c = rw c.in_default.keys2
+
+pub returns-in-2 : goal.returns-in-2
+unfolding push_of
+returns-in-2 c = rw c.in_default.keys3
+
+pub returns-in-3 : goal.returns-in-3
+unfolding push_of
+returns-in-3 c = rw c.in_default.keys4
+
+pub returns-in_default : goal.returns-in_default
+unfolding push_of
+returns-in_default c =
+    let m = c.in_default.rest in
+    let h : 4 ≤ c.before.args.self.count = omega (arith, m.1, m.0.1, m.0.0.1, m.0.0.0.1) in
+    rw (le-ltb _ _ h)

@@ -1,0 +1,17 @@
+-- `reads::read_cycle` meets its contract.
+use mathlib.Core.Path.{◌≡◌}
+use Prim.Native.Nat.{ℕ, ◌+◌, ◌/◌, ◌%◌}
+use native.Mathlib.Omega.{arith}
+use Rattle.floats.specs.Steps.{steps}
+use Rattle.lanes.specs.Word.{add_words}
+use Rattle.reads.specs.Reads.{cycle_at}
+use Rattle.reads.proofs.lists.read_cycle.Goals as goal
+
+-- the entry of the word one entry on
+next-entry : (word : ℕ) → add_words word 2097152 / 2097152 ≡ (word / 2097152 + 1) % 2048
+unfolding add_words
+next-entry word = omega arith
+
+pub returns : goal.returns
+unfolding cycle_at
+returns c = rw (c.before.add_words.ensures, next-entry _) (search steps)

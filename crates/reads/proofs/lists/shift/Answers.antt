@@ -1,0 +1,41 @@
+-- `reads::shift` meets its contract: one way of the code for each count.
+use mathlib.Core.Path.{◌≡◌}
+use lib.ListN.{length}
+use Rattle.reads.proofs.Moves.{move_none, move_more, moved_all}
+use borrow.Author.Rules.{rules}
+use native.Mathlib.Omega.{arith}
+use Rattle.reads.proofs.lists.shift.Goals as goal
+
+long : (s : goal.Start) → length s.args.list.word ≡ 4
+long s = search rules
+
+-- `search` finds each sum's equation, and the entry, by their types
+pub returns-then-n-lt2 : goal.returns-then-n-lt2
+returns-then-n-lt2 c =
+    let four = long (search) in
+    moved_all _ _ 1 _
+    (move_more _ _ _ _ _ (omega arith) (search) (move_none _ _)) (omega arith)
+
+pub returns-then-n-lt3 : goal.returns-then-n-lt3
+returns-then-n-lt3 c =
+    let four = long (search) in
+    moved_all _ _ 2 _
+    (move_more _ _ _ _ _ (omega arith) (search)
+    (move_more _ _ _ _ _ (omega arith) (search) (move_none _ _))) (omega arith)
+
+pub returns-then-n-lt4 : goal.returns-then-n-lt4
+returns-then-n-lt4 c =
+    let four = long (search) in
+    moved_all _ _ 3 _
+    (move_more _ _ _ _ _ (omega arith) (search)
+    (move_more _ _ _ _ _ (omega arith) (search)
+    (move_more _ _ _ _ _ (omega arith) (search) (move_none _ _)))) (omega arith)
+
+pub returns : goal.returns
+returns c =
+    let four = long (search) in
+    moved_all _ _ 4 _
+    (move_more _ _ _ _ _ (omega arith) (search)
+    (move_more _ _ _ _ _ (omega arith) (search)
+    (move_more _ _ _ _ _ (omega arith) (search)
+    (move_more _ _ _ _ _ (omega arith) (search) (move_none _ _))))) (omega arith)

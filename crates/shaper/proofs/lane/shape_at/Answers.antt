@@ -1,0 +1,44 @@
+-- `lane::shape_at` meets its contract: its steps are the definition's.
+use Rattle.floats.specs.Steps.{given}
+use Rattle.shaper.specs.Lane.{control0_at, control1_at, shaped_at}
+use Rattle.shaper.proofs.lane.shape_at.Goals as goal
+
+-- `search` finds an earlier place by its type; past a call with many slices it does not come as far back as the entry
+unfoldable start : goal.After-numbers-1 → goal.Start
+start c = search
+
+-- PORT: a record of ['fact_1', 'fact_2', 'fact_3', 'fact_4']
+pub control_at-control0-requires : goal.control_at-control0-requires
+unfolding start
+control_at-control0-requires c =
+    let d = (start c).requires.fact_2 in
+    (d.spot, (d.controls.base0, (d.controls.mod0, d.controls.source0)))
+
+-- PORT: a record of ['fact_1', 'fact_2', 'fact_3', 'fact_4']
+pub control_at-control1-requires : goal.control_at-control1-requires
+unfolding start
+control_at-control1-requires c =
+    let d = (start (search)).requires.fact_2 in
+    (d.spot, (d.controls.base1, (d.controls.mod1, d.controls.source1)))
+
+pub power_of-power0-requires : goal.power_of-power0-requires
+unfolding start
+power_of-power0-requires c = (start (search)).requires.fact_1
+
+pub power_of-power1-requires : goal.power_of-power1-requires
+unfolding start
+power_of-power1-requires c = (start (search)).requires.fact_1
+
+-- PORT: a record of ['fact_1', 'fact_2', 'fact_3']
+pub shape_of-requires : goal.shape_of-requires
+unfolding start
+shape_of-requires c =
+    let power0 : goal.After-power_of-power0 = search in
+    ((start (search)).requires.fact_1, (power0.power_of-power0.ensures, c.power_of-power1.ensures))
+
+pub returns : goal.returns
+unfolding shaped_at control0_at control1_at
+returns c =
+    let control1 : goal.After-control_at-control1 = search in
+    let control0 : goal.After-control_at-control0 = search in
+    rw (given control0.control_at-control0.ensures, given control1.control_at-control1.ensures) c.shape_of.ensures

@@ -1,0 +1,17 @@
+-- `load_voice` meets its contract.
+use lib.Ieee.{nan}
+use Rattle.grid.proofs.CellLaws.{col_at}
+use Rattle.share.proofs.cells.load_voice.Goals as goal
+
+pub returns : goal.returns
+returns c =
+    let a = c.before.before.before.before.before.before.before.before.before.before.args in
+    rw (
+      c.before.before.before.before.before.before.load_pair-pairs0.ensures,
+      c.before.before.before.before.before.load_pair-pairs1.ensures,
+      c.before.before.before.before.place-at0.ensures,
+      c.before.before.before.place-at1.ensures,
+      col_at nan _ _ a.fm.now 0,
+      col_at nan _ _ a.fm.now 1,
+      col_at nan _ _ a.last.now 0,
+    )

@@ -1,0 +1,97 @@
+-- `run_lane` meets its contract: its calls are the share's parts.
+use mathlib.Core.Path.{◌∙◌}
+use borrow.Author.Rules.{rules}
+use Rattle.render.specs.Lane.{Lent}
+use Rattle.render.specs.Promises.{lent}
+use Rattle.share.specs.Share.{Buffers, buffers}
+use Rattle.share.proofs.ShareLaws.{cut_tables, cut_readable, voice_held, stages_taken, rows_copied, shared}
+use Rattle.share.proofs.lane.run_lane.Goals as goal
+
+abbrev lends : goal.Start → Lent
+lends c =
+    let a = c.args in
+    lent a.base0.now a.base1.now a.mod0.now a.mod1.now a.source0.now a.source1.now a.curve.now a.cycle.now a.words.now a.steps.now a.inner.now
+
+abbrev had : goal.Start → Buffers
+had c = let a = c.args in buffers a.output.now a.work.now a.pairs.now a.fm.now a.last.now a.dec.now
+
+-- ---- `search` finds an earlier place by its type; from the last calls it comes no further back than the tables
+unfoldable start : goal.After-table-1 → goal.Start
+start c = search
+
+-- PORT: gone Need-slice-bounds-table-end
+-- part-table-end : tie.Need-slice-bounds-table-end
+-- part-table-end c =
+--     let s : tie.Start = search in
+--     let long = s.pre.1.1.1.0.curve in
+--     search rules
+
+-- PORT: gone Need-slice-bounds-wave-end
+-- part-wave-end : tie.Need-slice-bounds-wave-end
+-- part-wave-end c =
+--     let s : tie.Start = search in
+--     let long = s.pre.1.1.1.0.cycle in
+--     search rules
+
+-- PORT: a record of ['fact_1', 'fact_2', 'fact_3']
+pub load_voice-v-requires : goal.load_voice-v-requires
+unfolding start
+load_voice-v-requires c =
+    let s = start (search) in
+    let (_, (inside, (limits, (_, writable)))) = s.requires in
+    voice_held {w = had s} limits writable _ inside
+
+-- PORT: a record of ['powers_value_1', 'powers_value_2', 'powers_value_3', 'powers_value_4', 'readable', 'lanes_in_bounds']
+pub render_lane-end-requires : goal.render_lane-end-requires
+unfolding start
+render_lane-end-requires c =
+    let s = start (search) in
+    let (powers, (inside, (limits, (readable, writable)))) = s.requires in
+    (powers, (inside, (limits, (cut_tables (lends s) readable, (cut_readable (lends s) readable, writable.work)))))
+
+pub store_voice-requires : goal.store_voice-requires
+unfolding start
+store_voice-requires c =
+    let s = start (search) in
+    let (_, (inside, (limits, (_, writable)))) = s.requires in
+    voice_held {w = had s} limits writable _ inside
+
+-- PORT: a record of ['taken', 'lane_lt_n']
+pub decimate_lane-requires : goal.decimate_lane-requires
+unfolding start
+decimate_lane-requires c =
+    let staged : goal.After-stages_of-stages = search in
+    let rendered : goal.After-render_lane-end = search in
+    let s = start (search) in
+    let (_, (inside, (limits, (_, writable)))) = s.requires in
+    (stages_taken {w = had s} limits writable _ _ staged.stages_of-stages.ensures rendered.render_lane-end.ensures.size, inside)
+
+pub copy_lane-requires : goal.copy_lane-requires
+unfolding start
+copy_lane-requires c =
+    let decimated : goal.After-decimate_lane = search in
+    let rendered : goal.After-render_lane-end = search in
+    let s = start (search) in
+    let (_, (inside, (limits, (_, writable)))) = s.requires in
+    rows_copied {w = had s} limits writable _ _ inside (decimated.decimate-lane.kept.1.1.1.1.1.0 ∙ rendered.render_lane-end.ensures.size)
+
+pub returns : goal.returns
+unfolding start
+returns c =
+    let copied : goal.After-copy_lane = search in
+    let decimated : goal.After-decimate_lane = search in
+    let staged : goal.After-stages_of-stages = search in
+    let stored : goal.After-store_voice = search in
+    let rendered : goal.After-render_lane-end = search in
+    let loaded : goal.After-load_voice-v = search in
+    let s = start (search) in
+    shared _ _ (lends s) _ _ _ _ _ _ _ _ _ _ _ _ _ _ _ _ _ s.requires.powers_value_2.0 loaded.load_voice-v.ensures rendered.render_lane-end.ensures stored.store_voice.ensures
+    staged.stages_of-stages.ensures decimated.decimate_lane.ensures copied.copy_lane.ensures
+    (record {
+      output = shape_of-output c;
+      work = shape_of-work c;
+      pairs = shape_of-pairs c;
+      fm = shape_of-fm c;
+      last = shape_of-last c;
+      dec = shape_of-dec c;
+    })

@@ -1,0 +1,30 @@
+-- `asked::stretch` meets its contract.
+use mathlib.Core.Path.{◌≡◌, refl, sym, ◌∙◌}
+use lib.ListN.{length}
+use Rattle.spans.specs.Refusal.{stretch_refusal}
+use Rattle.spans.proofs.RefusalLaws.{accepted_frames, asks_of}
+use Rattle.spans.proofs.FasterLaws.{no_value}
+use Rattle.spans.proofs.asked.stretch.Goals as goal
+
+accepted : (c : goal.Else-number-ne0)
+    → let a = c.before.before.before.before.args in
+    stretch_refusal a.factor a.lanes a.active a.lane a.frames a.first a.count a.asked-first a.asked (length a.stretch.now) (length a.add.now) ≡ 0
+accepted c = sym c.before.stretch_refused-number.ensures ∙ c.if-number-ne0.false
+
+pub returns-then-number-ne0 : goal.returns-then-number-ne0
+returns-then-number-ne0 c = no_value _ _ _ _ _ _ _ _ _ _ _ _ _ c.before.stretch_refused-number.ensures c.if-number-ne0.true
+
+pub faster_of-value-requires : goal.faster_of-value-requires
+faster_of-value-requires c = rw c.spans_of-rows.ensures (asks_of _ _ _ _ _ _ _ _ _ _ _ (accepted c.before))
+
+pub returns : goal.returns
+returns c =
+    record {
+      number = sym (accepted c.before.before);
+      frames = refl;
+      refused = λ h. absurd (h refl);
+      value = λ e. rw (← c.before.spans_of-rows.ensures) c.faster_of-value.ensures;
+    }
+
+pub spans_of-rows-requires : goal.spans_of-rows-requires
+spans_of-rows-requires c = accepted_frames _ _ _ _ _ _ _ _ _ _ _ (accepted c)

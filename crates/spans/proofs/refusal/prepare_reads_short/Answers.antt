@@ -1,0 +1,6 @@
+-- `refusal::prepare_reads_short` meets its contract.
+
+use Rattle.spans.proofs.refusal.prepare_reads_short.Goals as goal
+
+pub returns : goal.returns
+returns c = rw (c.before.controls_short.ensures, c.short.ensures)

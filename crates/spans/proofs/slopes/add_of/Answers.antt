@@ -1,0 +1,27 @@
+-- `slopes::add_of` meets its contract.
+use Rattle.floats.specs.Steps.{given}
+use Rattle.spans.specs.Slopes.{add_of}
+use Rattle.controls.proofs.LentLaws.{lent_none, lent_some}
+use Rattle.spans.proofs.slopes.add_of.Goals as goal
+
+-- PORT: a record of ['fact_1', 'fact_2']
+pub source_span-w-requires : goal.source_span-w-requires
+source_span-w-requires c =
+    let s = c.before.before.before in
+    let sub = s.requires.fact_2.0 in (
+      record { inside = sub.inside; few = sub.few; block = sub.block; rows = sub.rows; held = s.requires.fact_2.1.holds c.before.if-source-eq0.false },
+      sub.first,
+    )
+
+pub returns-then-source-eq0 : goal.returns-then-source-eq0
+unfolding add_of
+returns-then-source-eq0 c =
+    let s = c.before.before in
+    rw (lent_none s.args.n s.args.lane s.args.frames s.args.source.now c.if-source-eq0.true)
+
+pub returns : goal.returns
+unfolding add_of
+returns c =
+    let s = c.before.before.before.before.before in
+    rw (lent_some s.args.n s.args.lane s.args.frames s.args.source.now c.before.before.before.if-source-eq0.false, given c.before.before.reach-a.ensures, ← c.before.source_span-w.ensures)
+    c.Added-of.ensures

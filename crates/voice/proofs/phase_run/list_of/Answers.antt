@@ -1,0 +1,46 @@
+-- `voice::list_of` meets its contract: its steps are the definition's, and every list on the way has at most four reads.
+use borrow.Author.Rules.{rules}
+use mathlib.Core.Path.{ap}
+use Rattle.floats.specs.Steps.{given}
+use Rattle.reads.proofs.Few.{Few, start_few, outgoing_few}
+use Rattle.voice.specs.PhaseRun.{list_of}
+use Rattle.voice.proofs.Counts.{as_ensured, mapped_few, moved_few}
+use Rattle.voice.proofs.phase_run.list_of.Goals as goal
+
+started : (c : goal.After-start-start) → Few c.start-start.result
+started c = as_ensured c.start-start.ensures (start_few _)
+
+mapped1 : (c : goal.After-map_slot-list1) → Few c.map_slot-list1.result
+mapped1 c = as_ensured c.map_slot-list1.ensures (mapped_few _ _ _ _ _ _ _ (started c.before))
+
+mapped0 : (c : goal.After-map_slot-list0) → Few c.map_slot-list0.result
+mapped0 c = as_ensured c.map_slot-list0.ensures (mapped_few _ _ _ _ _ _ _ (mapped1 c.before))
+
+moved1 : (c : goal.After-move_on-moved1) → Few c.move_on-moved1.result.list
+moved1 c = as_ensured (ap (λ m. m.list) c.move_on-moved1.ensures) (moved_few _ _ _ _ _ _ (mapped0 c.before))
+
+moved0 : (c : goal.After-move_on-moved0) → Few c.move_on-moved0.result.list
+moved0 c = as_ensured (ap (λ m. m.list) c.move_on-moved0.ensures) (moved_few _ _ _ _ _ _ (moved1 c.before))
+
+-- PORT: a record of ['fact_1', 'fact_2', 'fact_3']
+pub map_slot-list1-requires : goal.map_slot-list1-requires
+map_slot-list1-requires c = let h = started c in search rules
+
+-- PORT: a record of ['fact_1', 'fact_2', 'fact_3']
+pub map_slot-list0-requires : goal.map_slot-list0-requires
+map_slot-list0-requires c = let h = mapped1 c in search rules
+
+-- PORT: a record of ['fact_1', 'fact_2']
+pub move_on-moved1-requires : goal.move_on-moved1-requires
+move_on-moved1-requires c = let h = mapped0 c in search rules
+
+-- PORT: a record of ['fact_1', 'fact_2']
+pub move_on-moved0-requires : goal.move_on-moved0-requires
+move_on-moved0-requires c = let h = moved1 c in search rules
+
+pub returns : goal.returns
+unfolding list_of
+returns c = record {
+      value = rw (given c.before.before.before.before.before.before.half_width-half.ensures, given c.before.before.before.before.before.start-start.ensures, given c.before.before.before.before.map_slot-list1.ensures, given c.before.before.before.map_slot-list0.ensures, given c.before.before.move_on-moved1.ensures, given c.before.move_on-moved0.ensures, given c.outgoing.ensures);
+      count_bound = rw c.outgoing.ensures (outgoing_few _ (moved0 c.before));
+    }

@@ -1,0 +1,20 @@
+-- `voice::map_slot` meets its contract.
+use mathlib.Core.Path.{sym, ◌∙◌}
+use Rattle.floats.specs.Steps.{taken, left}
+use Rattle.voice.specs.PhaseRun.{map_slot}
+use Rattle.voice.proofs.Powers.{phase_power}
+use Rattle.voice.proofs.phase_run.map_slot.Goals as goal
+
+-- PORT: a record of ['fact_1', 'fact_2', 'fact_3']
+pub apply_with-requires : goal.apply_with-requires
+apply_with-requires c =
+    let p = c.before.before.before.requires in
+    (phase_power _ _ _ (sym c.before.in_phase.ensures ∙ c.if-in_phase.true) p.0, p.1)
+
+pub returns-then-in_phase : goal.returns-then-in_phase
+unfolding map_slot
+returns-then-in_phase c = rw (← c.before.before.in_phase.ensures, taken _ _ c.before.if-in_phase.true) c.apply_with.ensures
+
+pub returns : goal.returns
+unfolding map_slot
+returns c = rw (← c.before.in_phase.ensures, left _ _ c.if-in_phase.false)

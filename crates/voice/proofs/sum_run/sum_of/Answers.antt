@@ -1,0 +1,24 @@
+-- `voice::sum_of` meets its contract.
+use mathlib.Core.Bool.{◌||◌}
+use mathlib.Core.Path.{sym, ap₂, ◌∙◌}
+use Rattle.floats.specs.Steps.{given, taken}
+use Rattle.voice.specs.PhaseRun.{reads_of}
+use Rattle.voice.proofs.SumRunLaws.{none_summed}
+use Rattle.voice.proofs.sum_run.sum_of.Goals as goal
+
+-- PORT: a record of ['powers_value_1', 'powers_value_2', 'powers_value_3', 'on0_value_1', 'on0_value_2', 'power0_value_1', 'power0_value_2']
+pub sum_list-requires : goal.sum_list-requires
+sum_list-requires c =
+    let p = c.before.before.before.before.before.before.requires in
+    (p.0, (p.1.0, (p.1.1.0, (c.before.before.before.in_phase-on0.ensures, (c.before.before.in_phase-on1.ensures, p.1.1.1)))))
+
+pub returns-then-on0-on1 : goal.returns-then-on0-on1
+unfolding reads_of
+returns-then-on0-on1 c =
+    rw (← c.before.before.before.before.in_phase-on0.ensures, ← c.before.before.before.in_phase-on1.ensures, taken _ _ c.before.before.if-on0-on1.true, given c.before.signed-increment.ensures) c.sum_list.ensures
+
+pub returns : goal.returns
+returns c =
+    rw c.read_cycle.ensures
+    (none_summed _ _ _ _ _ _ _ _ _ _ _ _ _ _ _
+    (ap₂ ◌||◌ (sym c.before.before.before.in_phase-on0.ensures) (sym c.before.before.in_phase-on1.ensures) ∙ c.before.if-on0-on1.false))

@@ -1,0 +1,13 @@
+-- `voice::shape_of` meets its contract.
+use mathlib.Core.Path.{sym, ◌∙◌}
+use Rattle.limits.proofs.LineLaws.{or_false}
+use Rattle.voice.proofs.wave_run.shape_of.Goals as goal
+
+-- PORT: a record of ['fact_1', 'fact_2']
+pub shape_level-requires : goal.shape_level-requires
+shape_level-requires c =
+    let none = or_false c.before.before.has_state.result _ c.if-has_state.false in
+    (sym c.before.before.has_state.ensures ∙ none.0, sym c.before.has_state-2.ensures ∙ none.1)
+
+pub returns : goal.returns
+returns c = c.shape_level.ensures _ _

@@ -1,0 +1,25 @@
+-- `wave::diode1` meets its contract.
+use borrow.Author.Rules.{rules}
+use Rattle.floats.specs.Steps.{steps}
+use Rattle.wave.specs.Curve.{diode1_curve}
+use Rattle.wave.proofs.curves.diode1.Goals as goal
+
+pub max-positive-requires : goal.max-positive-requires
+unfolding diode1_curve
+max-positive-requires c = search rules
+
+pub min-negative-requires : goal.min-negative-requires
+unfolding diode1_curve
+min-negative-requires c = search rules
+
+pub exp-requires : goal.exp-requires
+unfolding diode1_curve
+exp-requires c = search rules
+
+pub exp-requires-2 : goal.exp-requires-2
+unfolding diode1_curve
+exp-requires-2 c = search rules
+
+pub returns : goal.returns
+unfolding diode1_curve
+returns c = search steps depth 12

@@ -1,0 +1,13 @@
+-- `wave::driven_by` meets its contract.
+use Rattle.modes.specs.Choice.{case_of}
+use Rattle.modes.proofs.Choice.{miss}
+use Rattle.wave.specs.Smooth.{driven_of}
+use Rattle.wave.proofs.smoothing.driven_by.Goals as goal
+
+pub returns-in-28 : goal.returns-in-28
+unfolding driven_of case_of
+returns-in-28 c = rw c.in_default.keys1
+
+pub returns-in_default : goal.returns-in_default
+unfolding driven_of
+returns-in_default c = rw (← miss (Unit {0}) _ _ _ c.before.in_default.rest, c.drive.ensures)
