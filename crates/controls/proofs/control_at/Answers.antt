@@ -5,4 +5,4 @@ use Rattle.controls.proofs.control_at.Goals as goal
 
 pub returns : goal.returns
 unfolding control_at
-returns c = rw (given_by_length, ← c.before.amount_at-amount.ensures, ← c.heard_at-heard.ensures)
+returns c = rw (given_by_length, ← c.amount_at-amount.ensures, ← c.heard_at-heard.ensures)

@@ -3,6 +3,7 @@ use Rattle.floats.specs.Steps.{taken, left}
 use Rattle.controls.specs.Controls.{heard_at}
 use Rattle.controls.proofs.LentLaws.{lent_none, lent_some}
 use Rattle.controls.proofs.heard_at.Goals as goal
+use Rattle.controls.proofs.heard_at.Goals.{Start}
 
 pub returns-then-source-eq0 : goal.returns-then-source-eq0
 unfolding heard_at
@@ -11,16 +12,16 @@ returns-then-source-eq0 c = rw (lent_none _ _ _ _ c.if-source-eq0.true)
 pub returns-then-is_own : goal.returns-then-is_own
 unfolding heard_at
 returns-then-is_own c =
-    rw (lent_some _ _ _ _ c.before.before.if-source-eq0.false, ← c.before.is_own.ensures, taken _ _ c.if-is_own.true)
+    rw (lent_some _ _ _ _ c.if-source-eq0.false, ← c.is_own.ensures, taken _ _ c.if-is_own.true)
 
 -- PORT: a record of ['fact_1', 'fact_2']
 pub source_at-requires : goal.source_at-requires
 source_at-requires c =
-    let s = c.before.before.before.before in
-    (s.requires.fact_1, s.requires.fact_2.holds c.before.before.if-source-eq0.false)
+    let s = (goal.at.source_at-requires c).Start in
+    (s.requires.fact_1, s.requires.fact_2.holds c.if-source-eq0.false)
 
 pub returns : goal.returns
 unfolding heard_at
 returns c =
-    rw (lent_some _ _ _ _ c.before.before.before.if-source-eq0.false, ← c.before.before.is_own.ensures, left _ _ c.before.if-is_own.false)
+    rw (lent_some _ _ _ _ c.if-source-eq0.false, ← c.is_own.ensures, left _ _ c.if-is_own.false)
     c.source_at.ensures

@@ -3,8 +3,9 @@ use Prim.Native.Nat.{◌*◌, ◌≤◌}
 use native.Mathlib.Nat.{mul-le-mul, le_of_lt}
 use native.Mathlib.Omega.{arith}
 use Rattle.grid.proofs.place.Goals as goal
+use Rattle.grid.proofs.place.Goals.{Start}
 
-small : (c : goal.Start) → c.args.row * c.args.n ≤ 65536 * 64
+small : (c : Start) → c.args.row * c.args.n ≤ 65536 * 64
 small c = mul-le-mul (le_of_lt c.requires.0) c.requires.2
 
 pub overflow_mul-result : goal.overflow_mul-result

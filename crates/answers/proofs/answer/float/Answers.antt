@@ -18,10 +18,10 @@ unfolding div of_bits
 zero_by_zero = refl
 
 pub float_from_bits-result : goal.float_from_bits-result
-float_from_bits-result c = let b = c.before.args.bits in rw (nan_bits_above binary32 b ∙ le-ltb 2139095040 (b % 2147483648) c.if-bits-gt2139095040.false) tt
+float_from_bits-result c = let b = c.args.bits in rw (nan_bits_above binary32 b ∙ le-ltb 2139095040 (b % 2147483648) c.if-bits-gt2139095040.false) tt
 
 pub returns-then-bits-gt2139095040 : goal.returns-then-bits-gt2139095040
-returns-then-bits-gt2139095040 c = zero_by_zero ∙ sym (nan-of c.before.args.bits c.if-bits-gt2139095040.true)
+returns-then-bits-gt2139095040 c = zero_by_zero ∙ sym (nan-of c.args.bits c.if-bits-gt2139095040.true)
 
 pub returns-else-bits-gt2139095040 : goal.returns-else-bits-gt2139095040
 returns-else-bits-gt2139095040 c = refl

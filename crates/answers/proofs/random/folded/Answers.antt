@@ -18,5 +18,5 @@ product x =
 pub returns : goal.returns
 returns c =
     c.wrapping_add_u64-2.ensures
-    ∙ ap (λ (n : ℕ). (n + bit_xor c.before.before.args.h c.before.before.args.word % 16777216 * 1099511627776) % 18446744073709551616) c.before.wrapping_add_u64.ensures
-    ∙ product (bit_xor c.before.before.args.h c.before.before.args.word)
+    ∙ ap (λ (n : ℕ). (n + bit_xor c.args.h c.args.word % 16777216 * 1099511627776) % 18446744073709551616) c.wrapping_add_u64.ensures
+    ∙ product (bit_xor c.args.h c.args.word)

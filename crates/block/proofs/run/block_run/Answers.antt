@@ -10,97 +10,74 @@ use Rattle.block.specs.Call.{call_numbers, read_lengths, write_lengths, Taken}
 use Rattle.block.proofs.RefusalLaws.{by_parts, accepted}
 use Rattle.block.proofs.CallLaws.{meets_refused, meets_shared}
 use Rattle.block.proofs.run.block_run.Goals as goal
+use Rattle.block.proofs.run.block_run.Goals.{After-call_numbers, After-read_lengths, After-refused-number, After-run_lanes, After-run_lanes-arg-6-1, After-slice_known-12-1, After-write_lengths, Else-number-ne0, Start}
 
 -- ---- the places on the way: from each call back to the one before, and from the first to the entry
-
-abbrev start : goal.After-call_numbers → goal.Start
-start c = c.before.before.before.before.before.before.before.before.before.before.before.before.before.before.before.before.before.before
-
-abbrev numbered : goal.After-read_lengths → goal.After-call_numbers
-numbered c = c.before
-
-abbrev measured : goal.After-write_lengths → goal.After-read_lengths
-measured c = c.before.before.before.before.before.before.before
-
-abbrev gathered : goal.After-refused-number → goal.After-write_lengths
-gathered c = c.before
-
-abbrev tested : goal.After-run_lanes-arg-6-1 → goal.Else-number-ne0
-tested c = c.before.before.before.before.before.before
-
-abbrev lends : goal.After-run_lanes → goal.After-run_lanes-arg-6-1
-lends c = c.before
-
-abbrev ran : goal.After-slice_known-12-1 → goal.After-run_lanes
-ran c = c.before.before.before.before.before.before.before.before.before.before.before.before
-
-abbrev entry : goal.After-refused-number → goal.Start
-entry c = start (numbered (measured (gathered c)))
 
 -- ---- the test
 
 -- what is lent to read, and to write
-abbrev reads : goal.Start → Lent
+abbrev reads : Start → Lent
 reads c =
     let a = c.args in
     lent a.base0.now a.base1.now a.mod0.now a.mod1.now a.source0.now a.source1.now a.curve.now a.cycle.now a.words.now a.steps.now a.inner.now
 
-abbrev writes : goal.Start → Buffers
+abbrev writes : Start → Buffers
 writes c = let a = c.args in buffers a.output.now a.work.now a.pairs.now a.fm.now a.last.now a.dec.now
 
-abbrev number : goal.Start → ℕ
+abbrev number : Start → ℕ
 number c =
     let a = c.args in
     block_refusal (call_numbers a.b a.r a.active) (read_lengths 36 13 (reads c)) (write_lengths (writes c))
 
-by-table : (c : goal.After-refused-number) → c.refused-number.result ≡ number (entry c)
+by-table : (c : After-refused-number) → c.refused-number.result ≡ number (UP.Start c)
 by-table c =
-    let w = gathered c in
-    let r = measured w in
-    by_parts block_refusal (numbered r).call_numbers.ensures r.read_lengths.ensures w.write_lengths.ensures c.refused-number.ensures
+    let w = (UP.After-write_lengths c) in
+    let r = (UP.After-read_lengths c) in
+    by_parts block_refusal c.call_numbers.ensures r.read_lengths.ensures w.write_lengths.ensures c.refused-number.ensures
 
-none : (c : goal.Else-number-ne0) → number (entry c.before) ≡ 0
-none c = sym (by-table c.before) ∙ c.if-number-ne0.false
+none : (c : Else-number-ne0) → number (UP.Start c) ≡ 0
+none c = sym (by-table (UP.After-refused-number c)) ∙ c.if-number-ne0.false
 
 pub returns-then-number-ne0 : goal.returns-then-number-ne0
 returns-then-number-ne0 c =
-    let o = entry c.before in
-    meets_refused o.args.b o.args.r o.args.active 36 13 (reads o) (writes o) _ (by-table c.before) c.if-number-ne0.true
+    let o = (goal.at.returns-then-number-ne0 c).Start in
+    meets_refused o.args.b o.args.r o.args.active 36 13 (reads o) (writes o) _ (by-table (goal.at.returns-then-number-ne0 c).After-refused-number) c.if-number-ne0.true
 
 -- ---- the run
 
-taken : (c : goal.Else-number-ne0) → let o = entry c.before in Taken o.args.b o.args.r o.args.active (reads o) (writes o)
+taken : (c : Else-number-ne0) → let o = (UP.Start c) in Taken o.args.b o.args.r o.args.active (reads o) (writes o)
 taken c =
-    let o = entry c.before in
+    let o = (UP.Start c) in
     accepted o.args.b o.args.r o.args.active 36 13 (reads o) (writes o) (none c)
 
 pub run_lanes-requires : goal.run_lanes-requires
 run_lanes-requires c = record {
       fact_1 = omega arith;
-      fact_2 = taken (tested c);
+      fact_2 = taken (goal.at.run_lanes-requires c).Else-number-ne0;
     }
 
 pub returns : goal.returns
 returns c =
-    let did = ran c in
-    let e = tested (lends did) in
-    let o = entry e.before in
+    let did = (goal.at.returns c).After-run_lanes in
+    let e = (goal.at.returns c).Else-number-ne0 in
+    let o = (goal.at.returns c).Start in
     meets_shared o.args.b o.args.r o.args.active 36 13 (reads o) (writes o) (none e) did.run_lanes.ensures
 
 pub shape_of-output : goal.shape_of-output
-shape_of-output c = (ran c).run_lanes.ensures.sizes.output
+shape_of-output c = c.run_lanes.ensures.sizes.output
 
 pub shape_of-work : goal.shape_of-work
-shape_of-work c = (ran c).run_lanes.ensures.sizes.work
+shape_of-work c = c.run_lanes.ensures.sizes.work
 
 pub shape_of-pairs : goal.shape_of-pairs
-shape_of-pairs c = (ran c).run_lanes.ensures.sizes.pairs
+shape_of-pairs c = c.run_lanes.ensures.sizes.pairs
 
 pub shape_of-fm : goal.shape_of-fm
-shape_of-fm c = (ran c).run_lanes.ensures.sizes.fm
+shape_of-fm c = c.run_lanes.ensures.sizes.fm
 
 pub shape_of-last : goal.shape_of-last
-shape_of-last c = (ran c).run_lanes.ensures.sizes.last
+shape_of-last c = c.run_lanes.ensures.sizes.last
 
 pub shape_of-dec : goal.shape_of-dec
-shape_of-dec c = (ran c).run_lanes.ensures.sizes.dec
+shape_of-dec c = c.run_lanes.ensures.sizes.dec

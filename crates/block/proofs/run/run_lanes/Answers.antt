@@ -8,90 +8,73 @@ use Rattle.render.specs.Promises.{lent}
 use Rattle.share.specs.Promises.{Shared}
 use Rattle.block.proofs.SharedLaws.{shared_none, shared_more, writable_kept}
 use Rattle.block.proofs.run.run_lanes.Goals as goal
+use Rattle.block.proofs.run.run_lanes.Goals.{After-power_table-powers, After-run_lane, After-run_lane-arg-in-loop-lane-5-1, After-slice_known-in-loop-lane-6-1, At-loop-lane, In-loop-lane, Start}
 
 -- ---- the places on the way: from the loop's head back to the entry, and from a turn's end back to its head
 
-abbrev start : goal.After-power_table-powers → goal.Start
-start c = c.before.before.before.before.before.before.before.before.before.before.before.before.before.before.before.before.before.before
-
-abbrev tabled : goal.At-loop-lane → goal.After-power_table-powers
-tabled c = c.before
-
-abbrev turned : goal.In-loop-lane → goal.At-loop-lane
-turned c = c.before
-
-abbrev lends : goal.After-run_lane-arg-in-loop-lane-5-1 → goal.In-loop-lane
-lends c = c.before.before.before.before.before.before.before
-
-abbrev ran : goal.After-run_lane → goal.After-run_lane-arg-in-loop-lane-5-1
-ran c = c.before
-
-abbrev ended : goal.After-slice_known-in-loop-lane-6-1 → goal.After-run_lane
-ended c = c.before.before.before.before.before.before.before.before.before.before.before.before
-
 -- what is lent to read, what to write, and what stands there at the loop's head
-abbrev reads : goal.Start → Lent
+abbrev reads : Start → Lent
 reads c =
     let a = c.args in
     lent a.base0.now a.base1.now a.mod0.now a.mod1.now a.source0.now a.source1.now a.curve.now a.cycle.now a.words.now a.steps.now a.inner.now
 
-abbrev writes : goal.Start → Buffers
+abbrev writes : Start → Buffers
 writes c = let a = c.args in buffers a.output.now a.work.now a.pairs.now a.fm.now a.last.now a.dec.now
 
-abbrev here : goal.At-loop-lane → Buffers
+abbrev here : At-loop-lane → Buffers
 here c = let l = c.loop-lane in buffers l.output l.work l.pairs l.fm l.last l.dec
 
 pub loop-lane-init : goal.loop-lane-init
-loop-lane-init c = ((omega arith, (start c).requires.fact_1), shared_none _ _)
+loop-lane-init c = ((omega arith, c.requires.fact_1), shared_none _ _)
 
 -- a turn's lane is one of them
-low : (c : goal.In-loop-lane) → (turned c).loop-lane.lane < (start (tabled (turned c))).args.to
+low : (c : In-loop-lane) → c.loop-lane.lane < c.args.to
 low c = c.loop-lane-test.true
 
 -- PORT: a record of ['powers_value_1', 'powers_value_2', 'powers_value_3', 'readable', 'writable']
 pub run_lane-requires : goal.run_lane-requires
 run_lane-requires c =
-    let t = lends c in
-    let l = turned t in
-    let p = (start (tabled l)).requires.fact_2 in
-    ((tabled l).power_table-powers.ensures.value, (omega (arith, low t, p.actives), (p.limits, (p.readable, writable_kept p.writable l.loop-lane.invariant.1.sizes))))
+    let t = (goal.at.run_lane-requires c).In-loop-lane in
+    let l = (goal.at.run_lane-requires c).At-loop-lane in
+    let p = c.requires.fact_2 in
+    (c.power_table-powers.ensures.value, (omega (arith, low t, p.actives), (p.limits, (p.readable, writable_kept p.writable l.loop-lane.invariant.1.sizes))))
 
 pub overflow_step-lane-in-loop-lane : goal.overflow_step-lane-in-loop-lane
 overflow_step-lane-in-loop-lane c =
-    let t = lends (ran (ended c)) in
-    let p = (start (tabled (turned t))).requires.fact_2 in
+    let t = (goal.at.overflow_step-lane-in-loop-lane c).In-loop-lane in
+    let p = c.requires.fact_2 in
     omega (arith, low t, p.actives, p.limits.lanes)
 
 pub loop-lane-smaller : goal.loop-lane-smaller
-loop-lane-smaller c = omega (arith, low (lends (ran (ended c))))
+loop-lane-smaller c = omega (arith, low (goal.at.loop-lane-smaller c).In-loop-lane)
 
 pub loop-lane-preserved : goal.loop-lane-preserved
 loop-lane-preserved c =
-    let t = lends (ran (ended c)) in
-    let was = (turned t).loop-lane.invariant in
-    ((omega (arith, was.0.0), omega (arith, low t)), shared_more was.0.0 was.1 (ended c).run_lane.ensures)
+    let t = (goal.at.loop-lane-preserved c).In-loop-lane in
+    let was = c.loop-lane.invariant in
+    ((omega (arith, was.0.0), omega (arith, low t)), shared_more was.0.0 was.1 c.run_lane.ensures)
 
 pub returns : goal.returns
 returns c =
-    let l = c.before in
-    let o = start (tabled l) in
+    let l = (goal.at.returns c).At-loop-lane in
+    let o = (goal.at.returns c).Start in
     let all : l.loop-lane.lane ≡ o.args.to = omega (arith, c.loop-lane-test.false, l.loop-lane.invariant.0.1) in
     subst (λ (k : ℕ). Shared o.args.b o.args.r (reads o) o.args.from k (writes o) (here l)) all l.loop-lane.invariant.1
 
 pub shape_of-output : goal.shape_of-output
-shape_of-output c = c.before.loop-lane.invariant.1.sizes.output
+shape_of-output c = c.loop-lane.invariant.1.sizes.output
 
 pub shape_of-work : goal.shape_of-work
-shape_of-work c = c.before.loop-lane.invariant.1.sizes.work
+shape_of-work c = c.loop-lane.invariant.1.sizes.work
 
 pub shape_of-pairs : goal.shape_of-pairs
-shape_of-pairs c = c.before.loop-lane.invariant.1.sizes.pairs
+shape_of-pairs c = c.loop-lane.invariant.1.sizes.pairs
 
 pub shape_of-fm : goal.shape_of-fm
-shape_of-fm c = c.before.loop-lane.invariant.1.sizes.fm
+shape_of-fm c = c.loop-lane.invariant.1.sizes.fm
 
 pub shape_of-last : goal.shape_of-last
-shape_of-last c = c.before.loop-lane.invariant.1.sizes.last
+shape_of-last c = c.loop-lane.invariant.1.sizes.last
 
 pub shape_of-dec : goal.shape_of-dec
-shape_of-dec c = c.before.loop-lane.invariant.1.sizes.dec
+shape_of-dec c = c.loop-lane.invariant.1.sizes.dec

@@ -3,4 +3,4 @@ use Rattle.block.proofs.NumberLaws.{numbers_taken}
 use Rattle.block.proofs.settings.numbers_of.Goals as goal
 
 pub returns : goal.returns
-returns c = numbers_taken _ c.before.before.before.before.before.before.before.before.before.before.before.before.before.requires
+returns c = numbers_taken _ c.requires

@@ -17,128 +17,102 @@ use Rattle.block.proofs.SharedLaws.{shared_by}
 use Rattle.lane_run.specs.Either.{either_refusal}
 use Rattle.lane_run.proofs.LaneLaws.{either_passed, either_active, either_taken, either_refused, either_shared, taken_by, shared_at}
 use Rattle.card.proofs.either.run_either.Goals as goal
+use Rattle.card.proofs.either.run_either.Goals.{After-interval_of-asked, After-read_lengths, After-refused_either-number, After-run_lanes, After-run_lanes-arg-6-1, After-settings_of-b, After-slice_known-12-1, After-write_lengths, Else-number-ne0, Start}
 
 -- ---- the places on the way: from each call back to the one before, and from the first to the entry
-
-abbrev start : goal.After-read_lengths → goal.Start
-start c = c.before.before.before.before.before.before.before.before.before.before.before.before.before.before.before.before.before.before.before.before
-
-abbrev measured : goal.After-write_lengths → goal.After-read_lengths
-measured c = c.before.before.before.before.before.before.before
-
-abbrev gathered : goal.After-refused_either-number → goal.After-write_lengths
-gathered c = c.before
-
-abbrev tested : goal.After-settings_of-b → goal.Else-number-ne0
-tested c = c.before
-
-abbrev settled : goal.After-interval_of-asked → goal.After-settings_of-b
-settled c = c.before
-
-abbrev lends : goal.After-run_lanes-arg-6-1 → goal.After-interval_of-asked
-lends c = c.before.before.before.before.before.before
-
-abbrev called : goal.After-run_lanes → goal.After-run_lanes-arg-6-1
-called c = c.before
-
-abbrev ran : goal.After-slice_known-12-1 → goal.After-run_lanes
-ran c = c.before.before.before.before.before.before.before.before.before.before.before.before
-
-abbrev entry : goal.After-refused_either-number → goal.Start
-entry c = start (measured (gathered c))
 
 -- ---- the test
 
 -- the settings and the range; what is lent to read, and to write
-abbrev settings : goal.Start → BlockSettings
+abbrev settings : Start → BlockSettings
 settings c =
     let a = c.args in
     settings_of a.mode0 a.mode1 a.character0 a.character1 a.factor a.lanes a.frames a.rate a.count0 a.count1 a.count2 a.coefs.now a.numbers.now
 
-abbrev range : goal.Start → Range
+abbrev range : Start → Range
 range c = range_of c.args.first c.args.count
 
-abbrev reads : goal.Start → Lent
+abbrev reads : Start → Lent
 reads c =
     let a = c.args in
     lent a.base0.now a.base1.now a.mod0.now a.mod1.now a.source0.now a.source1.now a.curve.now a.cycle.now a.words.now a.steps.now a.inner.now
 
-abbrev writes : goal.Start → Buffers
+abbrev writes : Start → Buffers
 writes c = let a = c.args in buffers a.output.now a.work.now a.pairs.now a.fm.now a.last.now a.dec.now
 
-abbrev numbers : goal.Start → CallNumbers
+abbrev numbers : Start → CallNumbers
 numbers c = call_numbers (settings c) (range c) c.args.active
 
-abbrev lengths : goal.Start → ReadLengths
+abbrev lengths : Start → ReadLengths
 lengths c = read_lengths (length c.args.coefs.now) (length c.args.numbers.now) (reads c)
 
-abbrev number : goal.Start → ℕ
+abbrev number : Start → ℕ
 number c = either_refusal c.args.one c.args.lane (numbers c) (lengths c) (write_lengths (writes c))
 
 -- the settings have the numbers that came one by one
-by-table : (c : goal.After-refused_either-number) → c.refused_either-number.result ≡ number (entry c)
+by-table : (c : After-refused_either-number) → c.refused_either-number.result ≡ number (UP.Start c)
 unfolding settings_of designs_of
 by-table c =
-    let w = gathered c in
-    by_parts (either_refusal (entry c).args.one (entry c).args.lane) refl (measured w).read_lengths.ensures w.write_lengths.ensures c.refused_either-number.ensures
+    let w = (UP.After-write_lengths c) in
+    by_parts (either_refusal c.args.one c.args.lane) refl c.read_lengths.ensures w.write_lengths.ensures c.refused_either-number.ensures
 
-none : (c : goal.Else-number-ne0) → number (entry c.before) ≡ 0
-none c = sym (by-table c.before) ∙ c.if-number-ne0.false
+none : (c : Else-number-ne0) → number (UP.Start c) ≡ 0
+none c = sym (by-table (UP.After-refused_either-number c)) ∙ c.if-number-ne0.false
 
 pub returns-then-number-ne0 : goal.returns-then-number-ne0
 returns-then-number-ne0 c =
-    let o = entry c.before in
+    let o = (goal.at.returns-then-number-ne0 c).Start in
     either_refused (settings o) (range o) o.args.active o.args.lane (length o.args.coefs.now) (length o.args.numbers.now) (reads o) (writes o) o.args.one _
-    (by-table c.before) c.if-number-ne0.true
+    (by-table (goal.at.returns-then-number-ne0 c).After-refused_either-number) c.if-number-ne0.true
 
 -- ---- the run
 
 -- PORT: a record of ['fact_1', 'fact_2']
 pub settings_of-b-requires : goal.settings_of-b-requires
 settings_of-b-requires c =
-    let o = entry c.before in
+    let o = (goal.at.settings_of-b-requires c).Start in
     whole_slices (numbers o) (lengths o) (passed (numbers o) (lengths o) _ (either_passed (numbers o) o.args.lane _ _ o.args.one (none c))).read
 
 pub interval_of-asked-requires : goal.interval_of-asked-requires
 interval_of-asked-requires c =
-    let e = tested c in
-    let o = entry e.before in
+    let e = (goal.at.interval_of-asked-requires c).Else-number-ne0 in
+    let o = (goal.at.interval_of-asked-requires c).Start in
     either_active (settings o) (range o) o.args.active o.args.lane (length o.args.coefs.now) (length o.args.numbers.now) (reads o) (writes o) o.args.one (none e)
 
 -- PORT: a record of ['fact_1', 'fact_2']
 pub run_lanes-requires : goal.run_lanes-requires
 run_lanes-requires c =
-    let i = lends c in
-    let s = settled i in
-    let e = tested s in
-    let o = entry e.before in
+    let i = (goal.at.run_lanes-requires c).After-interval_of-asked in
+    let s = (goal.at.run_lanes-requires c).After-settings_of-b in
+    let e = (goal.at.run_lanes-requires c).Else-number-ne0 in
+    let o = (goal.at.run_lanes-requires c).Start in
     taken_by s.settings_of-b.ensures i.interval_of-asked.ensures
     (either_taken (settings o) (range o) o.args.active o.args.lane (length o.args.coefs.now) (length o.args.numbers.now) (reads o) (writes o) o.args.one (none e))
 
 pub returns : goal.returns
 returns c =
-    let did = ran c in
-    let i = lends (called did) in
-    let s = settled i in
-    let e = tested s in
-    let o = entry e.before in
+    let did = (goal.at.returns c).After-run_lanes in
+    let i = (goal.at.returns c).After-interval_of-asked in
+    let s = (goal.at.returns c).After-settings_of-b in
+    let e = (goal.at.returns c).Else-number-ne0 in
+    let o = (goal.at.returns c).Start in
     either_shared (settings o) (range o) o.args.active o.args.lane (length o.args.coefs.now) (length o.args.numbers.now) (reads o) (writes o) o.args.one (none e)
     (shared_at i.interval_of-asked.ensures (shared_by s.settings_of-b.ensures did.run_lanes.ensures))
 
 pub shape_of-output : goal.shape_of-output
-shape_of-output c = (ran c).run_lanes.ensures.sizes.output
+shape_of-output c = c.run_lanes.ensures.sizes.output
 
 pub shape_of-work : goal.shape_of-work
-shape_of-work c = (ran c).run_lanes.ensures.sizes.work
+shape_of-work c = c.run_lanes.ensures.sizes.work
 
 pub shape_of-pairs : goal.shape_of-pairs
-shape_of-pairs c = (ran c).run_lanes.ensures.sizes.pairs
+shape_of-pairs c = c.run_lanes.ensures.sizes.pairs
 
 pub shape_of-fm : goal.shape_of-fm
-shape_of-fm c = (ran c).run_lanes.ensures.sizes.fm
+shape_of-fm c = c.run_lanes.ensures.sizes.fm
 
 pub shape_of-last : goal.shape_of-last
-shape_of-last c = (ran c).run_lanes.ensures.sizes.last
+shape_of-last c = c.run_lanes.ensures.sizes.last
 
 pub shape_of-dec : goal.shape_of-dec
-shape_of-dec c = (ran c).run_lanes.ensures.sizes.dec
+shape_of-dec c = c.run_lanes.ensures.sizes.dec

@@ -3,4 +3,4 @@ use mathlib.Core.Path.{◌∙◌}
 use Rattle.card.proofs.patches.shaper_patch_same.Goals as goal
 
 pub returns : goal.returns
-returns c = c.same_answer.ensures ∙ rw (c.before.read_patch-second.ensures, c.before.before.read_patch-first.ensures)
+returns c = c.same_answer.ensures ∙ rw (c.read_patch-second.ensures, c.read_patch-first.ensures)

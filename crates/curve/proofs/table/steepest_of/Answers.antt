@@ -12,11 +12,11 @@ loop-i-init c = (omega arith, refl)
 
 pub loop-i-preserved : goal.loop-i-preserved
 unfolding steepest_to
-loop-i-preserved c = (omega arith, rw (add-one, ← c.before.before.before.loop-i.invariant.1, ← c.before.slope.ensures) c.max-steepest.ensures)
+loop-i-preserved c = (omega arith, rw (add-one, ← c.loop-i.invariant.1, ← c.slope.ensures) c.max-steepest.ensures)
 
 pub returns : goal.returns
 unfolding steepest_of
 returns c =
-    let l = c.before.before.loop-i in
+    let l = c.loop-i in
     let e : l.i ≡ 1024 = omega arith in
     rw (← e, ← l.invariant.1) c.clamp.ensures

@@ -4,4 +4,4 @@ use Rattle.files.proofs.answers.card_slot.Goals as goal
 
 pub returns : goal.returns
 unfolding card_slot
-returns c = rw (c.card_character-character.ensures, c.before.card_amount-amount.ensures)
+returns c = rw (c.card_character-character.ensures, c.card_amount-amount.ensures)

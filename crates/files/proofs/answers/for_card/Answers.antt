@@ -4,4 +4,4 @@ use Rattle.files.proofs.answers.for_card.Goals as goal
 
 pub returns : goal.returns
 unfolding card_patch
-returns c = rw (c.card_slot-second.ensures, c.before.card_slot-first.ensures)
+returns c = rw (c.card_slot-second.ensures, c.card_slot-first.ensures)

@@ -6,8 +6,8 @@ use Rattle.files.proofs.reader.later.Goals as goal
 
 pub returns-then-e-h : goal.returns-then-e-h
 unfolding later_of
-returns-then-e-h c = rw (lt-ltb c.before.before.before.args.e.serial c.before.before.before.args.h.serial (omega (arith, c.if-e-h.true)))
+returns-then-e-h c = rw (lt-ltb c.args.e.serial c.args.h.serial (omega (arith, c.if-e-h.true)))
 
 pub returns : goal.returns
 unfolding later_of
-returns c = rw (le-ltb c.before.before.before.args.e.serial c.before.before.before.args.h.serial (omega (arith, c.if-e-h.false)))
+returns c = rw (le-ltb c.args.e.serial c.args.h.serial (omega (arith, c.if-e-h.false)))

@@ -3,4 +3,4 @@
 use Rattle.files.proofs.records.fields_bad.Goals as goal
 
 pub returns : goal.returns
-returns c = rw c.before.before.mode_bad.ensures
+returns c = rw c.mode_bad.ensures

@@ -4,4 +4,4 @@ use Rattle.files.proofs.records.four.Goals as goal
 
 pub returns : goal.returns
 unfolding four_at
-returns c = rw (c.two-2.ensures.value, c.before.two.ensures.value)
+returns c = rw (c.two-2.ensures.value, c.two.ensures.value)

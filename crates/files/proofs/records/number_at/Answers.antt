@@ -5,36 +5,37 @@ use borrow.Author.Tests.{not-true, not-false}
 use Rattle.files.specs.Format.{known_kind, bad_fields}
 use Rattle.files.proofs.NumberLaws.{length_cut, body_cut, too_small, unknown, wrong_length_lem, bad, good}
 use Rattle.files.proofs.records.number_at.Goals as goal
+use Rattle.files.proofs.records.number_at.Goals.{Else-not-known_kind}
 
 pub returns-then-not-known_kind : goal.returns-then-not-known_kind
 returns-then-not-known_kind c =
-    let known = c.before.known_kind.ensures ∙ ap known_kind c.before.before.two-kind.ensures.value in
+    let known = c.known_kind.ensures ∙ ap known_kind c.two-kind.ensures.value in
     unknown _ _ (omega arith) (omega arith) (omega arith) (sym known ∙ not-true _ c.if-not-known_kind.true)
 
 pub returns-then-length-ne-LENGTH : goal.returns-then-length-ne-LENGTH
 returns-then-length-ne-LENGTH c =
-    let e = c.before in
-    let known = e.before.known_kind.ensures ∙ ap known_kind e.before.before.two-kind.ensures.value in
-    let size = e.before.before.before.before.before.two in
+    let e = (goal.at.returns-then-length-ne-LENGTH c).Else-not-known_kind in
+    let known = c.known_kind.ensures ∙ ap known_kind c.two-kind.ensures.value in
+    let size = c.two in
     wrong_length_lem _ _ (omega arith) (omega arith) (omega arith) (sym known ∙ not-false _ e.if-not-known_kind.false) (λ e. c.if-length-ne-LENGTH.true (size.ensures.0 ∙ e))
 
 pub returns-then-fields_bad : goal.returns-then-fields_bad
 returns-then-fields_bad c =
-    let e = c.before.before.before.before in
-    let known = e.before.known_kind.ensures ∙ ap known_kind e.before.before.two-kind.ensures.value in
-    let size = e.before.before.before.before.before.two in
+    let e = (goal.at.returns-then-fields_bad c).Else-not-known_kind in
+    let known = c.known_kind.ensures ∙ ap known_kind c.two-kind.ensures.value in
+    let size = c.two in
     bad _ _ (omega arith) (omega arith) (omega arith) (sym known ∙ not-false _ e.if-not-known_kind.false)
-    (sym size.ensures.0 ∙ c.before.before.before.if-length-ne-LENGTH.false)
-    (sym (c.before.fields_bad.ensures ∙ ap bad_fields c.before.before.fields_at-entry.ensures) ∙ c.if-fields_bad.true)
+    (sym size.ensures.0 ∙ c.if-length-ne-LENGTH.false)
+    (sym (c.fields_bad.ensures ∙ ap bad_fields c.fields_at-entry.ensures) ∙ c.if-fields_bad.true)
 
 pub returns-else-fields_bad : goal.returns-else-fields_bad
 returns-else-fields_bad c =
-    let e = c.before.before.before.before in
-    let known = e.before.known_kind.ensures ∙ ap known_kind e.before.before.two-kind.ensures.value in
-    let size = e.before.before.before.before.before.two in
+    let e = (goal.at.returns-else-fields_bad c).Else-not-known_kind in
+    let known = c.known_kind.ensures ∙ ap known_kind c.two-kind.ensures.value in
+    let size = c.two in
     good _ _ (omega arith) (omega arith) (omega arith) (sym known ∙ not-false _ e.if-not-known_kind.false)
-    (sym size.ensures.0 ∙ c.before.before.before.if-length-ne-LENGTH.false)
-    (sym (c.before.fields_bad.ensures ∙ ap bad_fields c.before.before.fields_at-entry.ensures) ∙ c.if-fields_bad.false)
+    (sym size.ensures.0 ∙ c.if-length-ne-LENGTH.false)
+    (sym (c.fields_bad.ensures ∙ ap bad_fields c.fields_at-entry.ensures) ∙ c.if-fields_bad.false)
 
 pub returns-then-left-lt2 : goal.returns-then-left-lt2
 returns-then-left-lt2 c = length_cut _ _ c.if-left-lt2.true

@@ -8,6 +8,7 @@ use Rattle.floats.proofs.Casts.{whole_of, unsigned_of_nan, unsigned_small, unsig
 use Rattle.floats.proofs.Nan.{is_nan_lem, no_nan_T}
 use Rattle.floats.proofs.Read.{bits_of, read, bits_lt, read_no_nan}
 use Rattle.floats.proofs.cast.cast_usize.Goals as goal
+use Rattle.floats.proofs.cast.cast_usize.Goals.{Else-x, Start}
 
 pub returns-then-x : goal.returns-then-x
 returns-then-x c = rw (is_nan_lem _ c.if-x.true) unsigned_of_nan
@@ -15,31 +16,31 @@ returns-then-x c = rw (is_nan_lem _ c.if-x.true) unsigned_of_nan
 pub float_to_bits-b : goal.float_to_bits-b
 float_to_bits-b c = no_nan_T _ c.if-x.false
 
-under : (c : goal.Else-x) → bits_of c.before.args.x < 4294967296
-under c = bits_lt c.before.args.x c.before.well-formed.0.1
+under : (c : Else-x) → bits_of c.args.x < 4294967296
+under c = bits_lt c.args.x c.well_formed.0.1
 
 pub overflow_sub-c : goal.overflow_sub-c
 overflow_sub-c c = omega (arith, under c)
 
 pub overflow_mul-c : goal.overflow_mul-c
-overflow_mul-c c = let b = bits_of c.before.args.x in omega (arith, mul-le-mul_left b (one b), mul-one b, under c)
+overflow_mul-c c = let b = bits_of c.args.x in omega (arith, mul-le-mul_left b (one b), mul-one b, under c)
   where
     one : (b : ℕ) → 1 - b / 2147483648 ≤ 1
     one b = omega arith
 
 pub returns-then-c-lt1602224128 : goal.returns-then-c-lt1602224128
 returns-then-c-lt1602224128 c =
-    let e = c.before.before.before in
-    let s = e.before in
+    let e = (goal.at.returns-then-c-lt1602224128 c).Else-x in
+    let s = (goal.at.returns-then-c-lt1602224128 c).Start in
     let b = bits_of s.args.x in
-    c.before.whole_part-size.ensures
-    ∙ ap whole_of c.before.before.least.ensures
-    ∙ subst (λ (x : Float). whole_of (min (b * (1 - b / 2147483648)) 1602224127) ≡ to_unsigned 64 x) (read s.args.x s.well-formed.0.1)
-    (unsigned_small b (under e) (read_no_nan s.args.x s.well-formed.0.1 e.if-x.false) c.if-c-lt1602224128.true)
+    c.whole_part-size.ensures
+    ∙ ap whole_of c.least.ensures
+    ∙ subst (λ (x : Float). whole_of (min (b * (1 - b / 2147483648)) 1602224127) ≡ to_unsigned 64 x) (read s.args.x s.well_formed.0.1)
+    (unsigned_small b (under e) (read_no_nan s.args.x s.well_formed.0.1 e.if-x.false) c.if-c-lt1602224128.true)
 
 pub returns-else-c-lt1602224128 : goal.returns-else-c-lt1602224128
 returns-else-c-lt1602224128 c =
-    let e = c.before.before.before in
-    let s = e.before in
-    subst (λ (x : Float). 18446744073709551615 ≡ to_unsigned 64 x) (read s.args.x s.well-formed.0.1)
-    (unsigned_large (bits_of s.args.x) (under e) (read_no_nan s.args.x s.well-formed.0.1 e.if-x.false) c.if-c-lt1602224128.false)
+    let e = (goal.at.returns-else-c-lt1602224128 c).Else-x in
+    let s = (goal.at.returns-else-c-lt1602224128 c).Start in
+    subst (λ (x : Float). 18446744073709551615 ≡ to_unsigned 64 x) (read s.args.x s.well_formed.0.1)
+    (unsigned_large (bits_of s.args.x) (under e) (read_no_nan s.args.x s.well_formed.0.1 e.if-x.false) c.if-c-lt1602224128.false)

@@ -9,6 +9,7 @@ use Rattle.floats.proofs.Casts.{word_of_nan, short_lt, short_up, short_down, top
 use Rattle.floats.proofs.Nan.{is_nan_lem, no_nan_T}
 use Rattle.floats.proofs.Read.{bits_of, read, bits_lt, read_no_nan}
 use Rattle.floats.proofs.cast.cast_word.Goals as goal
+use Rattle.floats.proofs.cast.cast_word.Goals.{After-short_part-size, Else-x}
 
 pub returns-then-x : goal.returns-then-x
 returns-then-x c = rw (is_nan_lem _ c.if-x.true) word_of_nan
@@ -17,26 +18,26 @@ pub float_to_bits-b : goal.float_to_bits-b
 float_to_bits-b c = no_nan_T _ c.if-x.false
 
 -- the pattern of x, which is no NaN
-abbrev pattern : goal.Else-x → ℕ
-pattern c = bits_of c.before.args.x
+abbrev pattern : Else-x → ℕ
+pattern c = bits_of c.args.x
 
-fits : (c : goal.Else-x) → pattern c < 4294967296
-fits c = bits_lt c.before.args.x c.before.well-formed.0.1
+fits : (c : Else-x) → pattern c < 4294967296
+fits c = bits_lt c.args.x c.well_formed.0.1
 
-number : (c : goal.Else-x) → is_nan (of_bits binary32 (pattern c)) ≡ false
-number c = read_no_nan c.before.args.x c.before.well-formed.0.1 c.if-x.false
+number : (c : Else-x) → is_nan (of_bits binary32 (pattern c)) ≡ false
+number c = read_no_nan c.args.x c.well_formed.0.1 c.if-x.false
 
-back : (c : goal.Else-x) → cast_word (of_bits binary32 (pattern c)) ≡ cast_word c.before.args.x
-back c = ap cast_word (read c.before.args.x c.before.well-formed.0.1)
+back : (c : Else-x) → cast_word (of_bits binary32 (pattern c)) ≡ cast_word c.args.x
+back c = ap cast_word (read c.args.x c.well_formed.0.1)
 
 pub returns-then-b-lt2147483648 : goal.returns-then-b-lt2147483648
-returns-then-b-lt2147483648 c = let s = c.before.before in top_up (pattern s) (fits s) (number s) c.before.if-c-ge1325400064.true c.if-b-lt2147483648.true ∙ back s
+returns-then-b-lt2147483648 c = let s = (goal.at.returns-then-b-lt2147483648 c).Else-x in top_up (pattern s) (fits s) (number s) c.if-c-ge1325400064.true c.if-b-lt2147483648.true ∙ back s
 
 pub returns-else-b-lt2147483648 : goal.returns-else-b-lt2147483648
-returns-else-b-lt2147483648 c = let s = c.before.before in top_down (pattern s) (fits s) (number s) c.before.if-c-ge1325400064.true c.if-b-lt2147483648.false ∙ back s
+returns-else-b-lt2147483648 c = let s = (goal.at.returns-else-b-lt2147483648 c).Else-x in top_down (pattern s) (fits s) (number s) c.if-c-ge1325400064.true c.if-b-lt2147483648.false ∙ back s
 
-size-lt : (c : goal.After-short_part-size) → c.short_part-size.result < 2 ^ 31
-size-lt c = let s = c.before.before in rw c.short_part-size.ensures (short_lt (pattern s) (fits s) (number s) c.before.if-c-ge1325400064.false)
+size-lt : (c : After-short_part-size) → c.short_part-size.result < 2 ^ 31
+size-lt c = let s = (UP.Else-x c) in rw c.short_part-size.ensures (short_lt (pattern s) (fits s) (number s) c.if-c-ge1325400064.false)
 
 pub overflow_cast-up : goal.overflow_cast-up
 overflow_cast-up c = omega (arith, size-lt c)
@@ -46,12 +47,12 @@ overflow_sub-down c = omega (arith, size-lt c)
 
 pub returns-then-b-lt2147483648-2 : goal.returns-then-b-lt2147483648-2
 returns-then-b-lt2147483648-2 c =
-    let p = c.before in
-    let s = p.before.before in
-    p.short_part-size.ensures ∙ short_up (pattern s) (fits s) (number s) p.before.if-c-ge1325400064.false c.if-b-lt2147483648-2.true ∙ back s
+    let p = (goal.at.returns-then-b-lt2147483648-2 c).After-short_part-size in
+    let s = (goal.at.returns-then-b-lt2147483648-2 c).Else-x in
+    p.short_part-size.ensures ∙ short_up (pattern s) (fits s) (number s) c.if-c-ge1325400064.false c.if-b-lt2147483648-2.true ∙ back s
 
 pub returns-else-b-lt2147483648-2 : goal.returns-else-b-lt2147483648-2
 returns-else-b-lt2147483648-2 c =
-    let p = c.before in
-    let s = p.before.before in
-    ap (λ (z : ℕ). (4294967296 - z) % 4294967296) p.short_part-size.ensures ∙ short_down (pattern s) (fits s) (number s) p.before.if-c-ge1325400064.false c.if-b-lt2147483648-2.false ∙ back s
+    let p = (goal.at.returns-else-b-lt2147483648-2 c).After-short_part-size in
+    let s = (goal.at.returns-else-b-lt2147483648-2 c).Else-x in
+    ap (λ (z : ℕ). (4294967296 - z) % 4294967296) p.short_part-size.ensures ∙ short_down (pattern s) (fits s) (number s) c.if-c-ge1325400064.false c.if-b-lt2147483648-2.false ∙ back s

@@ -24,7 +24,7 @@ pub float_to_bits-biased : goal.float_to_bits-biased
 float_to_bits-biased c = no_nan_T _ c.if-x.false
 
 pub overflow_sub-scale : goal.overflow_sub-scale
-overflow_sub-scale c = omega (arith, bits_lt _ c.before.well-formed.0.1)
+overflow_sub-scale c = omega (arith, bits_lt _ c.well_formed.0.1)
 
 pub float_from_bits-scale : goal.float_from_bits-scale
 float_from_bits-scale c = rw clean tt
@@ -35,4 +35,4 @@ returns-then-x c = rw (is_nan_lem _ c.if-x.true, nan_is)
 
 pub returns-else-x : goal.returns-else-x
 unfolding split_of
-returns-else-x c = rw (no_nan _ c.before.if-x.false, c.nearest_u32.ensures)
+returns-else-x c = rw (no_nan _ c.if-x.false, c.nearest_u32.ensures)

@@ -12,12 +12,13 @@ use Rattle.floats.proofs.Patterns.{bits_no_nan}
 use Rattle.floats.proofs.Read.{bits_of, read}
 use Rattle.floats.proofs.PowerCases.{of_nan, of_large, of_low, of_middle, Middle, middle}
 use Rattle.floats.proofs.power.exp2.Goals as goal
+use Rattle.floats.proofs.power.exp2.Goals.{Else-x-3, Start}
 
-abbrev bits : goal.Start → ℕ
+abbrev bits : Start → ℕ
 bits c = bits_of c.args.x
 
-reads : (c : goal.Start) → of_bits binary32 (bits c) ≡ c.args.x
-reads c = read c.args.x c.well-formed.1.0.1
+reads : (c : Start) → of_bits binary32 (bits c) ≡ c.args.x
+reads c = read c.args.x c.well_formed.1.0.1
 
 -- the program's constants, by their patterns
 is-128 : of_bits binary32 1124073472 ≡ one28
@@ -43,38 +44,38 @@ large x t h = subst (λ (y : Float). le y x ≡ t) is-128 h
 low : (x : Float) (t : Bool) → lt x (neg (of_bits binary32 1123811328)) ≡ t → lt x minus126 ≡ t
 low x t h = subst (λ (y : Float). lt x y ≡ t) is-minus-126 h
 
-mid : (c : goal.Else-x-3) → Middle (bits c.before.before.before)
+mid : (c : Else-x-3) → Middle (bits (UP.Start c))
 mid c =
-    let s = c.before.before.before in
+    let s = (UP.Start c) in
     let r = sym (reads s) in
     middle (bits s)
-    (subst (λ (y : Float). is_nan y ≡ false) r (no_nan s.args.x c.before.before.if-x.false))
-    (subst (λ (y : Float). le one28 y ≡ false) r (large s.args.x false c.before.if-x-2.false))
+    (subst (λ (y : Float). is_nan y ≡ false) r (no_nan s.args.x c.if-x.false))
+    (subst (λ (y : Float). le one28 y ≡ false) r (large s.args.x false c.if-x-2.false))
     (subst (λ (y : Float). lt y minus126 ≡ false) r (low s.args.x false c.if-x-3.false))
 
 pub returns-then-x : goal.returns-then-x
-returns-then-x c = subst (λ (x : Float). x ≡ exp2_of x) (sym (is_nan_lem c.before.args.x c.if-x.true)) of_nan
+returns-then-x c = subst (λ (x : Float). x ≡ exp2_of x) (sym (is_nan_lem c.args.x c.if-x.true)) of_nan
 
 pub returns-then-x-2 : goal.returns-then-x-2
 returns-then-x-2 c =
-    let x = c.before.before.args.x in
-    one-by-zero ∙ sym (of_large x (no_nan x c.before.if-x.false) (large x true c.if-x-2.true))
+    let x = c.args.x in
+    one-by-zero ∙ sym (of_large x (no_nan x c.if-x.false) (large x true c.if-x-2.true))
 
 pub returns-then-x-3 : goal.returns-then-x-3
 returns-then-x-3 c =
-    let x = c.before.before.before.args.x in
-    is_zero ∙ sym (of_low x (no_nan x c.before.before.if-x.false) (large x false c.before.if-x-2.false) (low x true c.if-x-3.true))
+    let x = c.args.x in
+    is_zero ∙ sym (of_low x (no_nan x c.if-x.false) (large x false c.if-x-2.false) (low x true c.if-x-3.true))
 
 pub float_to_bits-x : goal.float_to_bits-x
-float_to_bits-x c = no_nan_T c.before.before.before.args.x c.before.before.if-x.false
+float_to_bits-x c = no_nan_T c.args.x c.if-x.false
 
 pub steps-requires : goal.steps-requires
 steps-requires c = (mid c).most
 
 pub power_bits-requires : goal.power_bits-requires
 power_bits-requires c = record {
-      fact_1 = c.before.before.before.before.requires;
-      fact_2 = omega (arith, (mid c.before).low, (mid c.before).high, c.steps.ensures);
+      fact_1 = c.requires;
+      fact_2 = omega (arith, (mid (goal.at.power_bits-requires c).Else-x-3).low, (mid (goal.at.power_bits-requires c).Else-x-3).high, c.steps.ensures);
     }
 
 pub float_from_bits-result : goal.float_from_bits-result
@@ -82,7 +83,7 @@ float_from_bits-result c = subst (λ (t : Bool). T (not t)) (sym (bits_no_nan c.
 
 pub returns : goal.returns
 returns c =
-    let x = c.before.before.before.before.before.args.x in
+    let x = c.args.x in
     c.power_bits.ensures.1
-    ∙ ap pow_at (c.before.steps.ensures ∙ sym (mid c.before.before).is ∙ ap scaled (reads c.before.before.before.before.before))
-    ∙ sym (of_middle x (no_nan x c.before.before.before.before.if-x.false) (large x false c.before.before.before.if-x-2.false) (low x false c.before.before.if-x-3.false))
+    ∙ ap pow_at (c.steps.ensures ∙ sym (mid (goal.at.returns c).Else-x-3).is ∙ ap scaled (reads (goal.at.returns c).Start))
+    ∙ sym (of_middle x (no_nan x c.if-x.false) (large x false c.if-x-2.false) (low x false c.if-x-3.false))

@@ -6,8 +6,9 @@ use native.Mathlib.Omega.{arith}
 use Rattle.floats.specs.Promises.{NearestRoot}
 use Rattle.floats.proofs.RootPatterns.{raised, put_together}
 use Rattle.floats.proofs.root.root_bits.Goals as goal
+use Rattle.floats.proofs.root.root_bits.Goals.{Start}
 
-abbrev up : goal.Start → ℕ
+abbrev up : Start → ℕ
 up c = c.args.m * 2 ^ (24 - (c.args.j + 1) % 2)
 
 -- the places that the law asks
@@ -17,18 +18,18 @@ places m j = ap (λ (p : ℕ). m * 2 ^ p) (same j)
     same : (j : ℕ) → 24 - (j + 1) % 2 ≡ 23 + j % 2
     same j = omega arith
 
-range : (c : goal.Start) → (2 ^ 46 ≤ up c) × (up c ≤ 2 ^ 48 - 2 ^ 24)
+range : (c : Start) → (2 ^ 46 ≤ up c) × (up c ≤ 2 ^ 48 - 2 ^ 24)
 range c = rw (places c.args.m c.args.j) (raised c.args.m (c.args.j % 2) (omega arith) c.requires.0 c.requires.1)
 
 -- the shift drops nothing
-whole : (c : goal.Start) → up c % 2 ^ 64 ≡ up c
+whole : (c : Start) → up c % 2 ^ 64 ≡ up c
 whole c = mod-eq_of_lt (omega (arith, (range c).1))
 
 -- PORT: a record of ['fact_1', 'fact_2']
 pub nearest_root-q-requires : goal.nearest_root-q-requires
-nearest_root-q-requires c = rw (whole c.before) (range c.before, c.guess-near.ensures)
+nearest_root-q-requires c = rw (whole (goal.at.nearest_root-q-requires c).Start) (range (goal.at.nearest_root-q-requires c).Start, c.guess-near.ensures)
 
 pub returns : goal.returns
 returns c =
-    let s = c.before.before in
+    let s = (goal.at.returns c).Start in
     put_together s.args.m s.args.j c.nearest_root-q.result s.requires.0 s.requires.1 s.requires.2 (subst (λ (n : ℕ). NearestRoot n c.nearest_root-q.result) (whole s ∙ places s.args.m s.args.j) c.nearest_root-q.ensures)

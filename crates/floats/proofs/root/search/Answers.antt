@@ -5,6 +5,7 @@ use native.Mathlib.Nat.{mul-le-mul, lt_of_not-le, zero-lt-suc}
 use native.Mathlib.Omega.{arith}
 use Rattle.floats.proofs.RootPatterns.{square_fits, root_under, nearest_root}
 use Rattle.floats.proofs.root.search.Goals as goal
+use Rattle.floats.proofs.root.search.Goals.{Start}
 
 -- where the loops go on
 over : (n r : ℕ) → 2 ^ 46 ≤ n → n + r ≤ r * r → 0 < r
@@ -27,19 +28,19 @@ pub overflow_mul-r : goal.overflow_mul-r
 overflow_mul-r c = omega (arith, square_fits c.loop-r.r c.loop-r.invariant)
 
 pub overflow_sub-r : goal.overflow_sub-r
-overflow_sub-r c = over c.before.before.args.n c.before.loop-r.r c.before.before.requires.fact_1.0 (omega (arith, c.loop-r-test.true))
+overflow_sub-r c = over c.args.n c.loop-r.r c.requires.fact_1.0 (omega (arith, c.loop-r-test.true))
 
 pub loop-r-smaller : goal.loop-r-smaller
-loop-r-smaller c = let h = over c.before.before.args.n c.before.loop-r.r c.before.before.requires.fact_1.0 (omega (arith, c.loop-r-test.true)) in omega arith
+loop-r-smaller c = let h = over c.args.n c.loop-r.r c.requires.fact_1.0 (omega (arith, c.loop-r-test.true)) in omega arith
 
 pub loop-r-preserved : goal.loop-r-preserved
-loop-r-preserved c = omega (arith, c.before.loop-r.invariant)
+loop-r-preserved c = omega (arith, c.loop-r.invariant)
 
 pub loop-r-2-init : goal.loop-r-2-init
 loop-r-2-init c =
-    let s = c.before.before in
-    let h : c.before.loop-r.r * c.before.loop-r.r < s.args.n + c.before.loop-r.r = omega (arith, c.loop-r-test.false) in
-    (root_under s.args.n c.before.loop-r.r s.requires.fact_1.1 h, h)
+    let s = (goal.at.loop-r-2-init c).Start in
+    let h : c.loop-r.r * c.loop-r.r < s.args.n + c.loop-r.r = omega (arith, c.loop-r-test.false) in
+    (root_under s.args.n c.loop-r.r s.requires.fact_1.1 h, h)
 
 pub overflow_mul-r-in-loop-r-2 : goal.overflow_mul-r-in-loop-r-2
 overflow_mul-r-in-loop-r-2 c = omega (arith, square_fits c.loop-r-2.r (omega (arith, c.loop-r-2.invariant.0)))
@@ -51,12 +52,12 @@ pub overflow_add-r-in-loop-r-2 : goal.overflow_add-r-in-loop-r-2
 overflow_add-r-in-loop-r-2 c = omega arith
 
 pub loop-r-2-smaller : goal.loop-r-2-smaller
-loop-r-2-smaller c = let h = under _ _ c.before.before.before.before.requires.fact_1.1 c.loop-r-2-test.true in omega arith
+loop-r-2-smaller c = let h = under _ _ c.requires.fact_1.1 c.loop-r-2-test.true in omega arith
 
 pub loop-r-2-preserved : goal.loop-r-2-preserved
-loop-r-2-preserved c = let h = under _ _ c.before.before.before.before.requires.fact_1.1 c.loop-r-2-test.true in omega arith
+loop-r-2-preserved c = let h = under _ _ c.requires.fact_1.1 c.loop-r-2-test.true in omega arith
 
 pub returns : goal.returns
 returns c =
-    let s = c.before.before.before.before in
-    nearest_root _ _ s.requires.fact_1.0 s.requires.fact_1.1 c.before.loop-r-2.invariant.1 c.loop-r-2-test.false
+    let s = (goal.at.returns c).Start in
+    nearest_root _ _ s.requires.fact_1.0 s.requires.fact_1.1 c.loop-r-2.invariant.1 c.loop-r-2-test.false

@@ -9,11 +9,11 @@ pub float_to_bits-result : goal.float_to_bits-result
 float_to_bits-result c = no_nan_T _ c.if-x.false
 
 pub float_from_bits-result : goal.float_from_bits-result
-float_from_bits-result c = rw (abs_no_nan _ (held _ c.before.well-formed.0.1) c.if-x.false) tt
+float_from_bits-result c = rw (abs_no_nan _ (held _ c.well_formed.0.1) c.if-x.false) tt
 
 pub returns-then-x : goal.returns-then-x
 unfolding abs_of
 returns-then-x c = rw (is_nan_lem _ c.if-x.true)
 
 pub returns-else-x : goal.returns-else-x
-returns-else-x c = abs_bits _ (held _ c.before.well-formed.0.1)
+returns-else-x c = abs_bits _ (held _ c.well_formed.0.1)

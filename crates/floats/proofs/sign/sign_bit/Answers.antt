@@ -10,14 +10,14 @@ pub float_to_bits-result : goal.float_to_bits-result
 float_to_bits-result c = no_nan_T _ c.if-x.false
 
 pub overflow_mul-result : goal.overflow_mul-result
-overflow_mul-result c = omega (arith, bit_le _ (bits_lt _ c.before.well-formed.0.1))
+overflow_mul-result c = omega (arith, bit_le _ (bits_lt _ c.well_formed.0.1))
 
 pub float_from_bits-result : goal.float_from_bits-result
-float_from_bits-result c = rw (bit_no_nan _ (bits_lt _ c.before.well-formed.0.1)) tt
+float_from_bits-result c = rw (bit_no_nan _ (bits_lt _ c.well_formed.0.1)) tt
 
 pub returns-then-x : goal.returns-then-x
 unfolding sign_bit
 returns-then-x c = rw (is_nan_lem _ c.if-x.true)
 
 pub returns-else-x : goal.returns-else-x
-returns-else-x c = sign_by_bit _ (held _ c.before.well-formed.0.1) c.if-x.false
+returns-else-x c = sign_by_bit _ (held _ c.well_formed.0.1) c.if-x.false

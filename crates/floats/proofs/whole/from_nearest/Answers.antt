@@ -6,4 +6,4 @@ pub returns-then-t-x : goal.returns-then-t-x
 returns-then-t-x c = rw c.if-t-x.true
 
 pub returns-else-t-x : goal.returns-else-t-x
-returns-else-t-x c = rw c.if-t-x.false c.before.not_above-r.ensures
+returns-else-t-x c = rw c.if-t-x.false c.not_above-r.ensures

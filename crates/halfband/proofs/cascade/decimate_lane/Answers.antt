@@ -6,11 +6,12 @@ use native.Mathlib.Omega.{arith}
 use Rattle.halfband.specs.Floats.{floats, design_of}
 use Rattle.halfband.proofs.CascadeLaws.{shifted, stage_rows, stages_then, stages_done}
 use Rattle.halfband.proofs.cascade.decimate_lane.Goals as goal
+use Rattle.halfband.proofs.cascade.decimate_lane.Goals.{At-loop-from_last, Start}
 
 pub stage-requires : goal.stage-requires
 stage-requires c =
-    let here = c.before.before.before.before in
-    let s = here.before.before.before in
+    let here = (goal.at.stage-requires c).At-loop-from_last in
+    let s = (goal.at.stage-requires c).Start in
     let taken = s.requires.taken in
     let left = here.loop-from_last.from_last - 1 in (
       taken.counts left (omega arith),
@@ -20,9 +21,9 @@ stage-requires c =
 
 pub loop-from_last-preserved : goal.loop-from_last-preserved
 loop-from_last-preserved c =
-    let here = c.before.before.before.before.before.before.before.before.before in
-    let s = here.before.before.before in
-    let did = c.before.before.before.before.stage in
+    let here = (goal.at.loop-from_last-preserved c).At-loop-from_last in
+    let s = (goal.at.loop-from_last-preserved c).Start in
+    let did = c.stage in
     let left = here.loop-from_last.from_last - 1 in (
       omega arith,
       did.auto.1.1.1.1.1.0 ∙ here.loop-from_last.invariant.1,
@@ -34,7 +35,7 @@ loop-from_last-preserved c =
     )
 
 pub returns : goal.returns
-returns c = c.before.loop-from_last.invariant.3 _ (stages_done _ _ _ _ _ _ (omega arith))
+returns c = c.loop-from_last.invariant.3 _ (stages_done _ _ _ _ _ _ (omega arith))
 
 pub loop-from_last-init : goal.loop-from_last-init
 loop-from_last-init c = (omega arith, refl, refl, λ w rest. rest)

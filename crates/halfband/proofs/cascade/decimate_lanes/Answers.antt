@@ -4,18 +4,19 @@ use Prim.Native.Nat.{◌-◌}
 use native.Mathlib.Omega.{arith}
 use Rattle.grid.proofs.EachLaws.{each_none, each_join}
 use Rattle.halfband.proofs.cascade.decimate_lanes.Goals as goal
+use Rattle.halfband.proofs.cascade.decimate_lanes.Goals.{At-loop-lane}
 
 -- PORT: a record of ['taken', 'lane_lt_n']
 pub decimate_lane-requires : goal.decimate_lane-requires
 decimate_lane-requires c =
-    let here = c.before.before.before in
-    let taken = here.before.before.before.requires.taken in
+    let here = (goal.at.decimate_lane-requires c).At-loop-lane in
+    let taken = c.requires.taken in
     (rw (here.loop-lane.invariant.1, here.loop-lane.invariant.2) taken, omega arith)
 
 pub loop-lane-preserved : goal.loop-lane-preserved
 loop-lane-preserved c =
-    let here = c.before.before.before.before.before.before.before.before in
-    let did = c.before.before.before.before.decimate-lane in (
+    let here = (goal.at.loop-lane-preserved c).At-loop-lane in
+    let did = c.decimate-lane in (
       omega arith,
       did.auto.1.1.1.1.1.0 ∙ here.loop-lane.invariant.1,
       did.auto.1.1.1.1.1.1.0 ∙ here.loop-lane.invariant.2,
@@ -24,8 +25,8 @@ loop-lane-preserved c =
 
 pub returns : goal.returns
 returns c =
-    let e : c.before.loop-lane.lane ≡ c.before.before.before.before.args.active = omega arith in
-    rw (← e) c.before.loop-lane.invariant.3
+    let e : c.loop-lane.lane ≡ c.args.active = omega arith in
+    rw (← e) c.loop-lane.invariant.3
 
 pub loop-lane-init : goal.loop-lane-init
 loop-lane-init c = (omega arith, refl, refl, each_none (omega arith))

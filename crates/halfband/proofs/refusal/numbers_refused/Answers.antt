@@ -4,4 +4,4 @@ use Rattle.halfband.proofs.refusal.numbers_refused.Goals as goal
 
 pub returns : goal.returns
 returns c =
-    rw (c.first_line.ensures, c.before.counts_bad.ensures, c.before.before.frames_bad.ensures, c.before.before.before.lanes_bad.ensures, c.before.before.before.before.factor_bad.ensures)
+    rw (c.first_line.ensures, c.counts_bad.ensures, c.frames_bad.ensures, c.lanes_bad.ensures, c.factor_bad.ensures)

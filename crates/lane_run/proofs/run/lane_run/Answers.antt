@@ -10,68 +10,45 @@ use Rattle.block.proofs.RefusalLaws.{by_parts}
 use Rattle.lane_run.specs.LaneCall.{lane_refusal}
 use Rattle.lane_run.proofs.LaneLaws.{lane_taken, lane_refused, lane_shared}
 use Rattle.lane_run.proofs.run.lane_run.Goals as goal
+use Rattle.lane_run.proofs.run.lane_run.Goals.{After-call_numbers, After-read_lengths, After-refused_either-number, After-run_lanes, After-run_lanes-arg-6-1, After-slice_known-12-1, After-write_lengths, Else-number-ne0, Start}
 
 -- ---- the places on the way: from each call back to the one before, and from the first to the entry
-
-abbrev start : goal.After-call_numbers → goal.Start
-start c = c.before.before.before.before.before.before.before.before.before.before.before.before.before.before.before.before.before.before
-
-abbrev numbered : goal.After-read_lengths → goal.After-call_numbers
-numbered c = c.before
-
-abbrev measured : goal.After-write_lengths → goal.After-read_lengths
-measured c = c.before.before.before.before.before.before.before
-
-abbrev gathered : goal.After-refused_either-number → goal.After-write_lengths
-gathered c = c.before
-
-abbrev tested : goal.After-run_lanes-arg-6-1 → goal.Else-number-ne0
-tested c = c.before.before.before.before.before.before
-
-abbrev lends : goal.After-run_lanes → goal.After-run_lanes-arg-6-1
-lends c = c.before
-
-abbrev ran : goal.After-slice_known-12-1 → goal.After-run_lanes
-ran c = c.before.before.before.before.before.before.before.before.before.before.before.before
-
-abbrev entry : goal.After-refused_either-number → goal.Start
-entry c = start (numbered (measured (gathered c)))
 
 -- ---- the test
 
 -- what is lent to read, and to write
-abbrev reads : goal.Start → Lent
+abbrev reads : Start → Lent
 reads c =
     let a = c.args in
     lent a.base0.now a.base1.now a.mod0.now a.mod1.now a.source0.now a.source1.now a.curve.now a.cycle.now a.words.now a.steps.now a.inner.now
 
-abbrev writes : goal.Start → Buffers
+abbrev writes : Start → Buffers
 writes c = let a = c.args in buffers a.output.now a.work.now a.pairs.now a.fm.now a.last.now a.dec.now
 
-abbrev number : goal.Start → ℕ
+abbrev number : Start → ℕ
 number c =
     let a = c.args in
     lane_refusal a.lane (call_numbers a.b a.r a.active) (read_lengths 36 13 (reads c)) (write_lengths (writes c))
 
-by-table : (c : goal.After-refused_either-number) → c.refused_either-number.result ≡ number (entry c)
+by-table : (c : After-refused_either-number) → c.refused_either-number.result ≡ number (UP.Start c)
 by-table c =
-    let w = gathered c in
-    let r = measured w in
-    by_parts (lane_refusal (entry c).args.lane) (numbered r).call_numbers.ensures r.read_lengths.ensures w.write_lengths.ensures c.refused_either-number.ensures
+    let w = (UP.After-write_lengths c) in
+    let r = (UP.After-read_lengths c) in
+    by_parts (lane_refusal c.args.lane) c.call_numbers.ensures r.read_lengths.ensures w.write_lengths.ensures c.refused_either-number.ensures
 
-none : (c : goal.Else-number-ne0) → number (entry c.before) ≡ 0
-none c = sym (by-table c.before) ∙ c.if-number-ne0.false
+none : (c : Else-number-ne0) → number (UP.Start c) ≡ 0
+none c = sym (by-table (UP.After-refused_either-number c)) ∙ c.if-number-ne0.false
 
 pub returns-then-number-ne0 : goal.returns-then-number-ne0
 returns-then-number-ne0 c =
-    let o = entry c.before in
-    lane_refused o.args.b o.args.r o.args.active o.args.lane 36 13 (reads o) (writes o) _ (by-table c.before) c.if-number-ne0.true
+    let o = (goal.at.returns-then-number-ne0 c).Start in
+    lane_refused o.args.b o.args.r o.args.active o.args.lane 36 13 (reads o) (writes o) _ (by-table (goal.at.returns-then-number-ne0 c).After-refused_either-number) c.if-number-ne0.true
 
 -- ---- the run
 
-taken : (c : goal.Else-number-ne0) → let o = entry c.before in Taken o.args.b o.args.r (o.args.lane + 1) (reads o) (writes o)
+taken : (c : Else-number-ne0) → let o = (UP.Start c) in Taken o.args.b o.args.r (o.args.lane + 1) (reads o) (writes o)
 taken c =
-    let o = entry c.before in
+    let o = (UP.Start c) in
     lane_taken o.args.b o.args.r o.args.active o.args.lane 36 13 (reads o) (writes o) (none c)
 
 -- the lane is below 64
@@ -81,30 +58,30 @@ overflow_add-lane c = let t = taken c in omega (arith, t.actives, t.limits.lanes
 pub run_lanes-requires : goal.run_lanes-requires
 run_lanes-requires c = record {
       fact_1 = omega arith;
-      fact_2 = taken (tested c);
+      fact_2 = taken (goal.at.run_lanes-requires c).Else-number-ne0;
     }
 
 pub returns : goal.returns
 returns c =
-    let did = ran c in
-    let e = tested (lends did) in
-    let o = entry e.before in
+    let did = (goal.at.returns c).After-run_lanes in
+    let e = (goal.at.returns c).Else-number-ne0 in
+    let o = (goal.at.returns c).Start in
     lane_shared o.args.b o.args.r o.args.active o.args.lane 36 13 (reads o) (writes o) (none e) did.run_lanes.ensures
 
 pub shape_of-output : goal.shape_of-output
-shape_of-output c = (ran c).run_lanes.ensures.sizes.output
+shape_of-output c = c.run_lanes.ensures.sizes.output
 
 pub shape_of-work : goal.shape_of-work
-shape_of-work c = (ran c).run_lanes.ensures.sizes.work
+shape_of-work c = c.run_lanes.ensures.sizes.work
 
 pub shape_of-pairs : goal.shape_of-pairs
-shape_of-pairs c = (ran c).run_lanes.ensures.sizes.pairs
+shape_of-pairs c = c.run_lanes.ensures.sizes.pairs
 
 pub shape_of-fm : goal.shape_of-fm
-shape_of-fm c = (ran c).run_lanes.ensures.sizes.fm
+shape_of-fm c = c.run_lanes.ensures.sizes.fm
 
 pub shape_of-last : goal.shape_of-last
-shape_of-last c = (ran c).run_lanes.ensures.sizes.last
+shape_of-last c = c.run_lanes.ensures.sizes.last
 
 pub shape_of-dec : goal.shape_of-dec
-shape_of-dec c = (ran c).run_lanes.ensures.sizes.dec
+shape_of-dec c = c.run_lanes.ensures.sizes.dec

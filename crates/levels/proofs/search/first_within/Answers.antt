@@ -9,18 +9,18 @@ use Rattle.levels.proofs.search.first_within.Goals as goal
 
 pub returns-then-is_within : goal.returns-then-is_within
 returns-then-is_within c =
-    let l = c.before.before.before.before.loop-i in
-    found_least _ part_length _ (omega arith) l.invariant.1 (sym c.before.is_Within.ensures ∙ c.if-is_within.true)
+    let l = c.loop-i in
+    found_least _ part_length _ (omega arith) l.invariant.1 (sym c.is_Within.ensures ∙ c.if-is_within.true)
 
 pub loop-i-preserved : goal.loop-i-preserved
 loop-i-preserved c =
-    let l = c.before.before.before.before.loop-i in
-    (omega arith, none_more _ _ l.invariant.1 (sym c.before.is_Within.ensures ∙ c.if-is_within.false))
+    let l = c.loop-i in
+    (omega arith, none_more _ _ l.invariant.1 (sym c.is_Within.ensures ∙ c.if-is_within.false))
 
 pub returns : goal.returns
 returns c =
-    let e : c.before.loop-i.i ≡ part_length = omega arith in
-    e ∙ none_past _ _ part_length c.before.loop-i.invariant.1 (omega arith)
+    let e : c.loop-i.i ≡ part_length = omega arith in
+    e ∙ none_past _ _ part_length c.loop-i.invariant.1 (omega arith)
 
 pub loop-i-init : goal.loop-i-init
 loop-i-init c = (omega arith, none_yet _)

@@ -4,8 +4,9 @@ use native.Mathlib.Omega.{arith}
 use Rattle.limits.specs.Lengths.{rendered_length}
 use Rattle.limits.proofs.LengthLaws.{frames_most, rendered_most}
 use Rattle.limits.proofs.lengths.rendered_length.Goals as goal
+use Rattle.limits.proofs.lengths.rendered_length.Goals.{Start}
 
-most : (c : goal.Start) → rendered_length c.args.frames c.args.factor c.args.lanes ≤ 2097152
+most : (c : Start) → rendered_length c.args.frames c.args.factor c.args.lanes ≤ 2097152
 most c = rendered_most _ _ _ c.requires.0 c.requires.1 c.requires.2
 
 pub overflow_mul-result : goal.overflow_mul-result

@@ -3,9 +3,10 @@ use Prim.Native.Nat.{◌*◌, ◌≤◌}
 use native.Mathlib.Omega.{arith}
 use Rattle.limits.proofs.LengthLaws.{span_most}
 use Rattle.limits.proofs.lengths.span_length.Goals as goal
+use Rattle.limits.proofs.lengths.span_length.Goals.{After-spans_of}
 
-most : (c : goal.After-spans_of) → c.spans_of.result * c.before.args.lanes ≤ 8192
-most c = rw c.spans_of.ensures (span_most _ _ c.before.requires.0 c.before.requires.1)
+most : (c : After-spans_of) → c.spans_of.result * c.args.lanes ≤ 8192
+most c = rw c.spans_of.ensures (span_most _ _ c.requires.0 c.requires.1)
 
 pub returns : goal.returns
 returns c = rw c.spans_of.ensures

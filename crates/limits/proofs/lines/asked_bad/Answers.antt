@@ -3,4 +3,4 @@
 use Rattle.limits.proofs.lines.asked_bad.Goals as goal
 
 pub returns : goal.returns
-returns c = rw (c.before.frame_bad.ensures, c.rendered.ensures)
+returns c = rw (c.frame_bad.ensures, c.rendered.ensures)

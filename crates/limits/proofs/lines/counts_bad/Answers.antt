@@ -3,4 +3,4 @@
 use Rattle.limits.proofs.lines.counts_bad.Goals as goal
 
 pub returns : goal.returns
-returns c = rw (c.count_bad-3.ensures, c.before.count_bad-2.ensures, c.before.before.count_bad.ensures)
+returns c = rw (c.count_bad-3.ensures, c.count_bad-2.ensures, c.count_bad.ensures)

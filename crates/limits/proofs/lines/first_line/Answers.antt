@@ -8,27 +8,27 @@ returns-then-modes c = rw c.if-modes.true
 
 pub returns-then-factor : goal.returns-then-factor
 unfolding first_of
-returns-then-factor c = rw (c.before.if-modes.false, c.if-factor.true)
+returns-then-factor c = rw (c.if-modes.false, c.if-factor.true)
 
 pub returns-then-lanes : goal.returns-then-lanes
 unfolding first_of
-returns-then-lanes c = rw (c.before.before.if-modes.false, c.before.if-factor.false, c.if-lanes.true)
+returns-then-lanes c = rw (c.if-modes.false, c.if-factor.false, c.if-lanes.true)
 
 pub returns-then-frames : goal.returns-then-frames
 unfolding first_of
-returns-then-frames c = rw (c.before.before.before.if-modes.false, c.before.before.if-factor.false, c.before.if-lanes.false, c.if-frames.true)
+returns-then-frames c = rw (c.if-modes.false, c.if-factor.false, c.if-lanes.false, c.if-frames.true)
 
 pub returns-then-rate : goal.returns-then-rate
 unfolding first_of
 returns-then-rate c =
-    rw (c.before.before.before.before.if-modes.false, c.before.before.before.if-factor.false, c.before.before.if-lanes.false, c.before.if-frames.false, c.if-rate.true)
+    rw (c.if-modes.false, c.if-factor.false, c.if-lanes.false, c.if-frames.false, c.if-rate.true)
 
 pub returns-then-counts : goal.returns-then-counts
 unfolding first_of
 returns-then-counts c =
-    rw (c.before.before.before.before.before.if-modes.false, c.before.before.before.before.if-factor.false, c.before.before.before.if-lanes.false, c.before.before.if-frames.false, c.before.if-rate.false, c.if-counts.true)
+    rw (c.if-modes.false, c.if-factor.false, c.if-lanes.false, c.if-frames.false, c.if-rate.false, c.if-counts.true)
 
 pub returns-else-counts : goal.returns-else-counts
 unfolding first_of
 returns-else-counts c =
-    rw (c.before.before.before.before.before.if-modes.false, c.before.before.before.before.if-factor.false, c.before.before.before.if-lanes.false, c.before.before.if-frames.false, c.before.if-rate.false, c.if-counts.false)
+    rw (c.if-modes.false, c.if-factor.false, c.if-lanes.false, c.if-frames.false, c.if-rate.false, c.if-counts.false)

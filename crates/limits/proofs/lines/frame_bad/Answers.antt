@@ -3,4 +3,4 @@
 use Rattle.limits.proofs.lines.frame_bad.Goals as goal
 
 pub returns : goal.returns
-returns c = rw (c.before.range_bad.ensures, c.rendered.ensures)
+returns c = rw (c.range_bad.ensures, c.rendered.ensures)

@@ -7,7 +7,7 @@ use Rattle.phase.proofs.map.mirror.Goals as goal
 pub returns : goal.returns
 unfolding mirror_map
 returns c out =
-    rw (step, given c.before.before.before.before.before.before.before.unit.ensures, given c.before.before.before.before.before.before.wrap-v.ensures, step, step, given c.before.before.before.before.before.lean_offset.ensures, step, given c.before.before.before.before.lean_offset-2.ensures, step, given c.before.before.before.smooth_box-weight.ensures, given c.before.before.to_word.ensures, given c.before.to_word-2.ensures) (c.pair.ensures out)
+    rw (step, given c.unit.ensures, given c.wrap-v.ensures, step, step, given c.lean_offset.ensures, step, given c.lean_offset-2.ensures, step, given c.smooth_box-weight.ensures, given c.to_word.ensures, given c.to_word-2.ensures) (c.pair.ensures out)
 
 pub unit-requires : goal.unit-requires
 unit-requires c = tt

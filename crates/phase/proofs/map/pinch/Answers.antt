@@ -7,7 +7,7 @@ use Rattle.phase.proofs.map.pinch.Goals as goal
 pub returns : goal.returns
 unfolding pinch_map
 returns c out =
-    rw (given c.before.before.before.before.before.before.before.pinch_strength-strength.ensures, given c.before.before.before.before.before.before.unit-x.ensures, step, given c.before.before.before.before.before.sin_cycles-s.ensures, given c.before.before.before.before.cos_cycles-k.ensures, given c.before.before.before.atan-angle.ensures, step, given c.before.before.to_word.ensures, given c.before.add_words.ensures) (c.one.ensures out)
+    rw (given c.pinch_strength-strength.ensures, given c.unit-x.ensures, step, given c.sin_cycles-s.ensures, given c.cos_cycles-k.ensures, given c.atan-angle.ensures, step, given c.to_word.ensures, given c.add_words.ensures) (c.one.ensures out)
 
 pub pinch_strength-strength-requires : goal.pinch_strength-strength-requires
 pinch_strength-strength-requires c = tt

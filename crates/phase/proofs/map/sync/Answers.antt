@@ -7,4 +7,4 @@ use Rattle.phase.proofs.map.sync.Goals as goal
 pub returns : goal.returns
 unfolding sync_map
 returns c out =
-    rw (given c.before.before.before.before.before.before.before.before.before.requires, given c.before.before.before.before.before.before.before.before.signed-t.ensures, given c.before.before.before.before.before.before.before.to_word-after.ensures, given c.before.before.before.before.before.before.to_word-whole.ensures, given c.before.before.before.before.before.add_words-before.ensures, given c.before.before.before.before.clamp-soft.ensures, given c.before.before.before.max-wide.ensures, given c.before.before.min-half.ensures, given c.before.smoothstep-weight.ensures) (c.pair.ensures out)
+    rw (given c.requires, given c.signed-t.ensures, given c.to_word-after.ensures, given c.to_word-whole.ensures, given c.add_words-before.ensures, given c.clamp-soft.ensures, given c.max-wide.ensures, given c.min-half.ensures, given c.smoothstep-weight.ensures) (c.pair.ensures out)

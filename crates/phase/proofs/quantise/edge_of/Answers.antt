@@ -6,7 +6,7 @@ use Rattle.phase.proofs.quantise.edge_of.Goals as goal
 pub returns : goal.returns
 unfolding edge_of
 returns c =
-    rw (given c.before.before.before.before.before.before.before.before.before.signed-t.ensures, given c.before.before.before.before.before.before.before.before.floor.ensures, step, step, given c.before.before.before.before.before.before.before.Line-of.ensures, step, given c.before.before.before.before.before.before.abs.ensures, given c.before.before.before.before.before.abs-2.ensures, given c.before.before.before.before.above-at_end.ensures, given c.before.before.before.pick-distance.ensures, given c.before.before.pick-left.ensures, given c.before.pick-right.ensures, given c.pick.ensures)
+    rw (given c.signed-t.ensures, given c.floor.ensures, step, step, given c.Line-of.ensures, step, given c.abs.ensures, given c.abs-2.ensures, given c.above-at_end.ensures, given c.pick-distance.ensures, given c.pick-left.ensures, given c.pick-right.ensures, given c.pick.ensures)
 
 pub signed-t-requires : goal.signed-t-requires
 signed-t-requires c = tt

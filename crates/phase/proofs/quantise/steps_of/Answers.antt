@@ -5,4 +5,4 @@ use Rattle.phase.proofs.quantise.steps_of.Goals as goal
 
 pub returns : goal.returns
 unfolding steps_of
-returns c = rw (given c.before.before.requires, step, given c.before.clamp-toward.ensures, given c.min-half.ensures)
+returns c = rw (given c.requires, step, given c.clamp-toward.ensures, given c.min-half.ensures)

@@ -5,16 +5,16 @@ use Rattle.phase.proofs.sums.map_if.Goals as goal
 
 pub map-requires : goal.map-requires
 map-requires c = record {
-      fact_1 = c.before.before.requires.fact_1 c.if-on.true;
-      fact_2 = c.before.before.requires.fact_2;
+      fact_1 = c.requires.fact_1 c.if-on.true;
+      fact_2 = c.requires.fact_2;
     }
 
 -- PORT: parameters ['c', 'out']
 pub returns-then-on : goal.returns-then-on
 unfolding map_if
-returns-then-on c out = rw (taken _ _ c.before.if-on.true) (c.map.ensures out)
+returns-then-on c out = rw (taken _ _ c.if-on.true) (c.map.ensures out)
 
 -- PORT: parameters ['c', 'out']
 pub returns : goal.returns
 unfolding map_if
-returns c out = rw (left _ _ c.before.if-on.false) (c.one.ensures out)
+returns c out = rw (left _ _ c.if-on.false) (c.one.ensures out)

@@ -11,27 +11,27 @@ off-false false e = sym e
 
 pub map-first-requires : goal.map-first-requires
 map-first-requires c = record {
-      fact_1 = c.before.before.before.before.requires.power0_value_1 (off-false _ c.if-not-on0.false);
-      fact_2 = c.before.before.before.before.requires.power0_value_2.1.0;
+      fact_1 = c.requires.power0_value_1 (off-false _ c.if-not-on0.false);
+      fact_2 = c.requires.power0_value_2.1.0;
     }
 
 pub map-second-requires : goal.map-second-requires
 map-second-requires c = record {
-      fact_1 = c.before.before.before.before.before.before.requires.power0_value_1 (off-false _ c.before.before.if-not-on0.false);
-      fact_2 = c.before.before.before.before.before.before.requires.power0_value_2.1.0;
+      fact_1 = c.requires.power0_value_1 (off-false _ c.if-not-on0.false);
+      fact_2 = c.requires.power0_value_2.1.0;
     }
 
 pub returns-then-not-on0 : goal.returns-then-not-on0
-returns-then-not-on0 c = c.products.ensures ∙ every_off _ _ _ _ _ _ _ _ _ _ _ _ _ _ c.before.if-not-on0.true c.before.before.map_if-reads.ensures
+returns-then-not-on0 c = c.products.ensures ∙ every_off _ _ _ _ _ _ _ _ _ _ _ _ _ _ c.if-not-on0.true c.map_if-reads.ensures
 
 pub returns-then-kind-eq-KIND_BOTH : goal.returns-then-kind-eq-KIND_BOTH
 returns-then-kind-eq-KIND_BOTH c =
     c.sum_two_lem.ensures
-    ∙ every_two _ _ _ _ _ _ _ _ _ _ _ _ _ _ _ _ c.before.before.before.before.if-not-on0.false c.before.before.if-kind-eq-KIND_BOTH.true
-    c.before.before.before.before.before.map_if-reads.ensures c.before.before.before.map-first.ensures c.before.map-second.ensures
+    ∙ every_two _ _ _ _ _ _ _ _ _ _ _ _ _ _ _ _ c.if-not-on0.false c.if-kind-eq-KIND_BOTH.true
+    c.map_if-reads.ensures c.map-first.ensures c.map-second.ensures
 
 pub returns : goal.returns
 returns c =
     c.products-2.ensures
-    ∙ every_one _ _ _ _ _ _ _ _ _ _ _ _ _ _ _ c.before.before.before.if-not-on0.false (ne_eqb _ _ c.before.if-kind-eq-KIND_BOTH.false)
-    c.before.before.before.before.map_if-reads.ensures c.before.before.map-first.ensures
+    ∙ every_one _ _ _ _ _ _ _ _ _ _ _ _ _ _ _ c.if-not-on0.false (ne_eqb _ _ c.if-kind-eq-KIND_BOTH.false)
+    c.map_if-reads.ensures c.map-first.ensures

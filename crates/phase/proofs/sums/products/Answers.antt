@@ -4,4 +4,4 @@ use Rattle.phase.proofs.sums.products.Goals as goal
 
 pub returns : goal.returns
 unfolding products_of
-returns c = rw (← c.before.before.read_at.ensures) c.products_after.ensures
+returns c = rw (← c.read_at.ensures) c.products_after.ensures

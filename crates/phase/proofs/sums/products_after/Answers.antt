@@ -6,7 +6,7 @@ use Rattle.phase.proofs.sums.products_after.Goals as goal
 
 pub returns-then-b-eq-KIND_BOTH : goal.returns-then-b-eq-KIND_BOTH
 unfolding products_after
-returns-then-b-eq-KIND_BOTH c = rw (taken _ _ (eq-eqb _ _ c.before.before.if-b-eq-KIND_BOTH.true), c.before.read_at.ensures)
+returns-then-b-eq-KIND_BOTH c = rw (taken _ _ (eq-eqb _ _ c.if-b-eq-KIND_BOTH.true), c.read_at.ensures)
 
 pub returns : goal.returns
 unfolding products_after

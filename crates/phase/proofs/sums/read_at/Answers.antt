@@ -5,8 +5,8 @@ use Rattle.phase.proofs.sums.read_at.Goals as goal
 
 pub returns-then-moves : goal.returns-then-moves
 unfolding read_at
-returns-then-moves c = rw (taken _ _ c.before.before.if-moves.true, ← c.before.add_words.ensures) c.read_cycle.ensures
+returns-then-moves c = rw (taken _ _ c.if-moves.true, ← c.add_words.ensures) c.read_cycle.ensures
 
 pub returns : goal.returns
 unfolding read_at
-returns c = rw (left _ _ c.before.if-moves.false) c.read_cycle-2.ensures
+returns c = rw (left _ _ c.if-moves.false) c.read_cycle-2.ensures

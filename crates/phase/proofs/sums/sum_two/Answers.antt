@@ -4,4 +4,4 @@ use Rattle.phase.proofs.sums.sum_two.Goals as goal
 
 pub returns : goal.returns
 unfolding sum_two
-returns c = rw (← c.before.before.before.products-sum.ensures, ← c.before.before.read_at.ensures) c.products_after.ensures
+returns c = rw (← c.products-sum.ensures, ← c.read_at.ensures) c.products_after.ensures

@@ -7,50 +7,51 @@ use Rattle.halfband.specs.Halfband.{stages_of}
 use Rattle.plan.specs.Counting.{lane_steps}
 use Rattle.plan.proofs.StepLaws.{steps_none, steps_one, steps_two, steps_three, one_most, two_most, three_most}
 use Rattle.plan.proofs.needs.lane_steps.Goals as goal
+use Rattle.plan.proofs.needs.lane_steps.Goals.{Start}
 
 -- the sections' steps and their bound where one, two or three stages run
-one : (c : goal.Start) → c.args.count0 * c.args.frames ≤ 344064
+one : (c : Start) → c.args.count0 * c.args.frames ≤ 344064
 one c = let a = c.args in let p = c.requires in one_most a.count0 a.count1 a.count2 a.frames p.0 p.1
 
-two : (c : goal.Start) → (c.args.count0 + 2 * c.args.count1) * c.args.frames ≤ 344064
+two : (c : Start) → (c.args.count0 + 2 * c.args.count1) * c.args.frames ≤ 344064
 two c = let a = c.args in let p = c.requires in two_most a.count0 a.count1 a.count2 a.frames p.0 p.1 p.2
 
-three : (c : goal.Start) → (c.args.count0 + 2 * c.args.count1 + 4 * c.args.count2) * c.args.frames ≤ 344064
+three : (c : Start) → (c.args.count0 + 2 * c.args.count1 + 4 * c.args.count2) * c.args.frames ≤ 344064
 three c = let a = c.args in let p = c.requires in three_most a.count0 a.count1 a.count2 a.frames p.0 p.1 p.2 p.3
 
 -- PORT: a record of ['value', 'upper_bound']
 pub returns-in-2 : goal.returns-in-2
 unfolding lane_steps stages_of
 returns-in-2 c =
-    let a = c.before.args in
-    (rw c.in_default.keys1 (sym (steps_one a.count0 a.count1 a.count2 a.frames)), one c.before)
+    let a = c.args in
+    (rw c.in_default.keys1 (sym (steps_one a.count0 a.count1 a.count2 a.frames)), one (goal.at.returns-in-2 c).Start)
 
 -- PORT: a record of ['value', 'upper_bound']
 pub returns-in-4 : goal.returns-in-4
 unfolding lane_steps stages_of
 returns-in-4 c =
-    let a = c.before.args in
-    (rw c.in_default.keys2 (sym (steps_two a.count0 a.count1 a.count2 a.frames)), two c.before)
+    let a = c.args in
+    (rw c.in_default.keys2 (sym (steps_two a.count0 a.count1 a.count2 a.frames)), two (goal.at.returns-in-4 c).Start)
 
 -- PORT: a record of ['value', 'upper_bound']
 pub returns-in-8 : goal.returns-in-8
 unfolding lane_steps stages_of
 returns-in-8 c =
-    let a = c.before.args in
-    (rw c.in_default.keys3 (sym (steps_three a.count0 a.count1 a.count2 a.frames)), three c.before)
+    let a = c.args in
+    (rw c.in_default.keys3 (sym (steps_three a.count0 a.count1 a.count2 a.frames)), three (goal.at.returns-in-8 c).Start)
 
 -- PORT: a record of ['value', 'upper_bound']
 pub returns-in_default : goal.returns-in_default
 unfolding lane_steps stages_of
 returns-in_default c =
-    let a = c.before.args in let m = c.in_default.rest in
+    let a = c.args in let m = c.in_default.rest in
     (rw (ne_eqb _ 2 m.0.0.1, ne_eqb _ 4 m.0.1, ne_eqb _ 8 m.1) (sym (steps_none a.count0 a.count1 a.count2 a.frames)), omega arith)
 
 pub overflow_mul-result : goal.overflow_mul-result
-overflow_mul-result c = omega (arith, one c.before)
+overflow_mul-result c = omega (arith, one (goal.at.overflow_mul-result c).Start)
 
 pub overflow_mul-result-in-4-2 : goal.overflow_mul-result-in-4-2
-overflow_mul-result-in-4-2 c = omega (arith, two c.before)
+overflow_mul-result-in-4-2 c = omega (arith, two (goal.at.overflow_mul-result-in-4-2 c).Start)
 
 pub overflow_mul-result-in-8-3 : goal.overflow_mul-result-in-8-3
-overflow_mul-result-in-8-3 c = omega (arith, three c.before)
+overflow_mul-result-in-8-3 c = omega (arith, three (goal.at.overflow_mul-result-in-8-3 c).Start)

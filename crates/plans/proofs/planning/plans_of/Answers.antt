@@ -4,4 +4,4 @@ use Rattle.plans.proofs.planning.plans_of.Goals as goal
 
 pub returns : goal.returns
 unfolding plans_of
-returns c = rw (c.plan_of-frame.ensures, c.before.one_frame.ensures, c.before.before.plan_of-block.ensures)
+returns c = rw (c.plan_of-frame.ensures, c.one_frame.ensures, c.plan_of-block.ensures)

@@ -8,6 +8,7 @@ use lib.ListN.{length}
 use lib.Seq.{paste}
 use Rattle.plans.specs.Row.{put_left, end_left}
 use Rattle.plans.proofs.row.left.Goals as goal
+use Rattle.plans.proofs.row.left.Goals.{Start}
 
 -- what goes past the row's end is not put,
 no_room : (row text : List ℕ) (at : ℕ) → 120 < at + length text → (row ≡ put_left row at text) × (at ≡ end_left at text)
@@ -34,6 +35,6 @@ copy-requires c = (omega arith, omega arith)
 -- PORT: a record of ['row_after', 'value']
 pub returns : goal.returns
 returns c =
-    let s : goal.Start = search in
+    let s : Start = search in
     let r = room s.args.row.now s.args.text.now s.args.at (omega arith) in
     (c.copy.ensures ∙ r.0, r.1)

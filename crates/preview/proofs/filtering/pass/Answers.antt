@@ -8,13 +8,13 @@ use Rattle.preview.proofs.filtering.pass.Goals as goal
 
 pub loop-i-preserved : goal.loop-i-preserved
 loop-i-preserved c =
-    let l = c.before.before.before.before.loop-i in
-    (omega (arith, c.before.before.before.loop-i-test.true), l.invariant.1, pass_more _ _ _ _ _ _ l.invariant.2 c.before.filter_with-out.ensures)
+    let l = c.loop-i in
+    (omega (arith, c.loop-i-test.true), l.invariant.1, pass_more _ _ _ _ _ _ l.invariant.2 c.filter_with-out.ensures)
 
 pub returns : goal.returns
 returns c =
-    let l = c.before.loop-i in
-    let e : l.i ≡ length c.before.before.before.args.picture.now = omega (arith, l.invariant.1) in
+    let l = c.loop-i in
+    let e : l.i ≡ length c.args.picture.now = omega (arith, l.invariant.1) in
     rw (← e) l.invariant.2
 
 pub loop-i-init : goal.loop-i-init

@@ -4,4 +4,4 @@ use Rattle.preview.proofs.points.map_setting.Goals as goal
 
 pub returns : goal.returns
 unfolding map_setting
-returns c = rw (c.power_of.ensures, c.before.in_phase.ensures)
+returns c = rw (c.power_of.ensures, c.in_phase.ensures)

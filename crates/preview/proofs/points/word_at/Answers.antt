@@ -6,8 +6,9 @@ use native.Mathlib.Omega.{arith}
 use borrow.Author.Rules.{rules}
 use Rattle.preview.specs.Points.{word_at}
 use Rattle.preview.proofs.points.word_at.Goals as goal
+use Rattle.preview.proofs.points.word_at.Goals.{Start}
 
-below : (c : goal.Start) → c.args.i * 4294967296 / c.args.points < 4294967296
+below : (c : Start) → c.args.i * 4294967296 / c.args.points < 4294967296
 below c =
     let a = c.args in
     let h = c.requires.1 in

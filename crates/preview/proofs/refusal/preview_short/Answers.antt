@@ -3,4 +3,4 @@
 use Rattle.preview.proofs.refusal.preview_short.Goals as goal
 
 pub returns : goal.returns
-returns c = rw (c.short-3.ensures, c.before.short-2.ensures, c.before.before.short.ensures)
+returns c = rw (c.short-3.ensures, c.short-2.ensures, c.short.ensures)

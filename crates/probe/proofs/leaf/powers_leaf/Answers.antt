@@ -10,7 +10,7 @@ exp2-requires c = search rules
 
 pub returns-then-leaf-eq0 : goal.returns-then-leaf-eq0
 unfolding powers_leaf
-returns-then-leaf-eq0 c = rw (eq-eqb _ _ c.before.if-leaf-eq0.true) c.exp2.ensures
+returns-then-leaf-eq0 c = rw (eq-eqb _ _ c.if-leaf-eq0.true) c.exp2.ensures
 
 pub tanh-requires : goal.tanh-requires
 unfolding powers_leaf
@@ -18,7 +18,7 @@ tanh-requires c = search rules
 
 pub returns-then-leaf-eq1 : goal.returns-then-leaf-eq1
 unfolding powers_leaf
-returns-then-leaf-eq1 c = rw (ne_eqb _ _ c.before.before.if-leaf-eq0.false, eq-eqb _ _ c.before.if-leaf-eq1.true) c.tanh.ensures
+returns-then-leaf-eq1 c = rw (ne_eqb _ _ c.if-leaf-eq0.false, eq-eqb _ _ c.if-leaf-eq1.true) c.tanh.ensures
 
 pub exp-requires : goal.exp-requires
 unfolding powers_leaf
@@ -26,7 +26,7 @@ exp-requires c = search rules
 
 pub returns-then-leaf-eq2 : goal.returns-then-leaf-eq2
 unfolding powers_leaf
-returns-then-leaf-eq2 c = rw (ne_eqb _ _ c.before.before.before.if-leaf-eq0.false, ne_eqb _ _ c.before.before.if-leaf-eq1.false, eq-eqb _ _ c.before.if-leaf-eq2.true) c.exp.ensures
+returns-then-leaf-eq2 c = rw (ne_eqb _ _ c.if-leaf-eq0.false, ne_eqb _ _ c.if-leaf-eq1.false, eq-eqb _ _ c.if-leaf-eq2.true) c.exp.ensures
 
 pub ln_cosh-requires : goal.ln_cosh-requires
 unfolding powers_leaf
@@ -34,8 +34,8 @@ ln_cosh-requires c = search rules
 
 pub returns-then-leaf-eq3 : goal.returns-then-leaf-eq3
 unfolding powers_leaf
-returns-then-leaf-eq3 c = rw (ne_eqb _ _ c.before.before.before.before.if-leaf-eq0.false, ne_eqb _ _ c.before.before.before.if-leaf-eq1.false, ne_eqb _ _ c.before.before.if-leaf-eq2.false, eq-eqb _ _ c.before.if-leaf-eq3.true) c.ln_cosh.ensures
+returns-then-leaf-eq3 c = rw (ne_eqb _ _ c.if-leaf-eq0.false, ne_eqb _ _ c.if-leaf-eq1.false, ne_eqb _ _ c.if-leaf-eq2.false, eq-eqb _ _ c.if-leaf-eq3.true) c.ln_cosh.ensures
 
 pub returns : goal.returns
 unfolding powers_leaf
-returns c = rw (ne_eqb _ _ c.before.before.before.if-leaf-eq0.false, ne_eqb _ _ c.before.before.if-leaf-eq1.false, ne_eqb _ _ c.before.if-leaf-eq2.false, ne_eqb _ _ c.if-leaf-eq3.false)
+returns c = rw (ne_eqb _ _ c.if-leaf-eq0.false, ne_eqb _ _ c.if-leaf-eq1.false, ne_eqb _ _ c.if-leaf-eq2.false, ne_eqb _ _ c.if-leaf-eq3.false)

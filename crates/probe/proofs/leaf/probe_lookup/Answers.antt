@@ -14,4 +14,4 @@ returns-then-table-lt1025 c = rw (lt-ltb _ _ c.if-table-lt1025.true)
 
 pub returns-else-table-lt1025 : goal.returns-else-table-lt1025
 unfolding lookup_or_zero
-returns-else-table-lt1025 c = rw (le-ltb _ _ c.before.if-table-lt1025.false) c.lookup.ensures
+returns-else-table-lt1025 c = rw (le-ltb _ _ c.if-table-lt1025.false) c.lookup.ensures

@@ -11,13 +11,13 @@ unfolding entries
 loop-i-init c = (omega arith, c.least-n.ensures, refl, ran_none _ _)
 
 pub powers_leaf-requires : goal.powers_leaf-requires
-powers_leaf-requires c = c.before.before.before.loop-i.invariant.2
+powers_leaf-requires c = c.loop-i.invariant.2
 
 pub loop-i-preserved : goal.loop-i-preserved
-loop-i-preserved c = let l = c.before.before.before.before.loop-i in (omega arith, l.invariant.1, l.invariant.2, ran_more _ _ _ _ _ (omega arith) l.invariant.3 c.powers_leaf.ensures)
+loop-i-preserved c = let l = c.loop-i in (omega arith, l.invariant.1, l.invariant.2, ran_more _ _ _ _ _ (omega arith) l.invariant.3 c.powers_leaf.ensures)
 
 pub returns : goal.returns
 returns c = record {
       value = omega arith;
-      ran = c.before.loop-i.invariant.3;
+      ran = c.loop-i.invariant.3;
     }

@@ -19,4 +19,4 @@ reads-requires c = record {
 
 pub returns : goal.returns
 unfolding reads_or_none
-returns c = rw (le-ltb _ _ c.before.before.if-curve-lt1025.false) c.reads.ensures.value
+returns c = rw (le-ltb _ _ c.if-curve-lt1025.false) c.reads.ensures.value

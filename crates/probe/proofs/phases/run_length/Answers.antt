@@ -10,12 +10,12 @@ returns-then-curve-lt1025 c = rw (lt-ltb _ _ c.if-curve-lt1025.true)
 
 pub returns-then-cycle-lt2048 : goal.returns-then-cycle-lt2048
 unfolding run_length
-returns-then-cycle-lt2048 c = rw (le-ltb _ _ c.before.if-curve-lt1025.false, lt-ltb _ _ c.if-cycle-lt2048.true)
+returns-then-cycle-lt2048 c = rw (le-ltb _ _ c.if-curve-lt1025.false, lt-ltb _ _ c.if-cycle-lt2048.true)
 
 pub returns-then-words-out : goal.returns-then-words-out
 unfolding run_length
-returns-then-words-out c = rw (le-ltb _ _ c.before.before.if-curve-lt1025.false, le-ltb _ _ c.before.if-cycle-lt2048.false) (omega arith)
+returns-then-words-out c = rw (le-ltb _ _ c.if-curve-lt1025.false, le-ltb _ _ c.if-cycle-lt2048.false) (omega arith)
 
 pub returns-else-words-out : goal.returns-else-words-out
 unfolding run_length
-returns-else-words-out c = rw (le-ltb _ _ c.before.before.if-curve-lt1025.false, le-ltb _ _ c.before.if-cycle-lt2048.false) (omega arith)
+returns-else-words-out c = rw (le-ltb _ _ c.if-curve-lt1025.false, le-ltb _ _ c.if-cycle-lt2048.false) (omega arith)

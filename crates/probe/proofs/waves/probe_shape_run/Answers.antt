@@ -16,21 +16,21 @@ returns-then-state-lt2 c = let h = lt-ltb _ _ c.if-state-lt2.true in (rw h, (ran
 
 pub loop-i-init : goal.loop-i-init
 unfolding entries
-loop-i-init c = (omega arith, c.before.before.least-n.ensures, refl, ran_none _ _, state_none _ _ _)
+loop-i-init c = (omega arith, c.least-n.ensures, refl, ran_none _ _, state_none _ _ _)
 
 pub slot-shaped-requires : goal.slot-shaped-requires
-slot-shaped-requires c = c.before.before.before.loop-i.invariant.2
+slot-shaped-requires c = c.loop-i.invariant.2
 
 pub loop-i-preserved : goal.loop-i-preserved
 loop-i-preserved c =
-    let l = c.before.before.before.before.before.loop-i in
-    let e = c.before.slot-shaped.ensures in
+    let l = c.loop-i in
+    let e = c.slot-shaped.ensures in
     (omega arith, l.invariant.1, l.invariant.2, ran_more _ _ _ _ _ (omega arith) l.invariant.3 (shaped _ _ _ _ _ _ l.invariant.4 e), state_more _ _ _ _ _ _ l.invariant.4 e)
 
 -- PORT: a record of ['value', 'ran', 'state_after']
 pub returns : goal.returns
 unfolding shape_length end_of
 returns c =
-    let h = le-ltb _ _ c.before.before.before.before.before.if-state-lt2.false in
-    let l = c.before.loop-i in
+    let h = le-ltb _ _ c.if-state-lt2.false in
+    let l = c.loop-i in
     (rw h (omega arith), (l.invariant.3, rw (h, l.invariant.4)))

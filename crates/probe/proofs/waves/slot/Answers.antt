@@ -17,4 +17,4 @@ shape-requires c = search rules
 
 pub returns : goal.returns
 unfolding slot_of
-returns c = rw (c.shape.ensures, c.before.setting_of-setting.ensures, c.before.before.flag.ensures)
+returns c = rw (c.shape.ensures, c.setting_of-setting.ensures, c.flag.ensures)

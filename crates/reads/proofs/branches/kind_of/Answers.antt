@@ -10,8 +10,8 @@ any-requires c = tt
 
 pub returns-then-any : goal.returns-then-any
 unfolding kind_of
-returns-then-any c = rw (taken _ _ (sym c.before.any.ensures ∙ c.if-any.true))
+returns-then-any c = rw (taken _ _ (sym c.any.ensures ∙ c.if-any.true))
 
 pub returns-else-any : goal.returns-else-any
 unfolding kind_of
-returns-else-any c = rw (left _ _ (sym c.before.any.ensures ∙ c.if-any.false))
+returns-else-any c = rw (left _ _ (sym c.any.ensures ∙ c.if-any.false))

@@ -14,4 +14,4 @@ next-entry word = omega arith
 
 pub returns : goal.returns
 unfolding cycle_at
-returns c = rw (c.before.add_words.ensures, next-entry _) (search steps)
+returns c = rw (c.add_words.ensures, next-entry _) (search steps)

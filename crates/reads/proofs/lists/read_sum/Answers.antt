@@ -7,22 +7,22 @@ use Rattle.reads.proofs.lists.read_sum.Goals as goal
 
 pub returns-then-count-eq0 : goal.returns-then-count-eq0
 unfolding read_sum
-returns-then-count-eq0 c = rw (eq-eqb _ _ c.before.if-count-eq0.true) c.read_cycle.ensures
+returns-then-count-eq0 c = rw (eq-eqb _ _ c.if-count-eq0.true) c.read_cycle.ensures
 
 pub returns-then-count-eq1 : goal.returns-then-count-eq1
 unfolding read_sum sum_to
-returns-then-count-eq1 c = rw (c.if-count-eq1.true, c.before.read_cycle-2.ensures)
+returns-then-count-eq1 c = rw (c.if-count-eq1.true, c.read_cycle-2.ensures)
 
 pub returns-then-count-eq2 : goal.returns-then-count-eq2
 unfolding read_sum sum_to
-returns-then-count-eq2 c = rw (c.if-count-eq2.true, c.before.read_cycle-3.ensures, c.before.before.before.read_cycle-2.ensures)
+returns-then-count-eq2 c = rw (c.if-count-eq2.true, c.read_cycle-3.ensures, c.read_cycle-2.ensures)
 
 pub returns-then-count-eq3 : goal.returns-then-count-eq3
 unfolding read_sum sum_to
-returns-then-count-eq3 c = rw (c.if-count-eq3.true, c.before.read_cycle-4.ensures, c.before.before.before.read_cycle-3.ensures, c.before.before.before.before.before.read_cycle-2.ensures)
+returns-then-count-eq3 c = rw (c.if-count-eq3.true, c.read_cycle-4.ensures, c.read_cycle-3.ensures, c.read_cycle-2.ensures)
 
 pub returns : goal.returns
 unfolding read_sum sum_to
 returns c =
-    let e : c.before.before.before.before.before.before.before.before.before.before.before.args.reads.count ≡ 4 = omega arith in
-    rw (e, c.read_cycle-5.ensures, c.before.before.read_cycle-4.ensures, c.before.before.before.before.read_cycle-3.ensures, c.before.before.before.before.before.before.read_cycle-2.ensures)
+    let e : c.args.reads.count ≡ 4 = omega arith in
+    rw (e, c.read_cycle-5.ensures, c.read_cycle-4.ensures, c.read_cycle-3.ensures, c.read_cycle-2.ensures)

@@ -5,8 +5,9 @@ use Rattle.reads.proofs.Moves.{move_none, move_more, moved_all}
 use borrow.Author.Rules.{rules}
 use native.Mathlib.Omega.{arith}
 use Rattle.reads.proofs.lists.shift.Goals as goal
+use Rattle.reads.proofs.lists.shift.Goals.{Start}
 
-long : (s : goal.Start) → length s.args.list.word ≡ 4
+long : (s : Start) → length s.args.list.word ≡ 4
 long s = search rules
 
 -- `search` finds each sum's equation, and the entry, by their types

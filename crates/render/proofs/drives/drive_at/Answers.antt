@@ -6,8 +6,8 @@ use Rattle.render.proofs.drives.drive_at.Goals as goal
 
 pub returns-then-modulation-eq0 : goal.returns-then-modulation-eq0
 unfolding drive_at amount_at
-returns-then-modulation-eq0 c = rw (lent_none _ _ _ _ c.if-modulation-eq0.true) c.before.before.requires.powers_value_2.0
+returns-then-modulation-eq0 c = rw (lent_none _ _ _ _ c.if-modulation-eq0.true) c.requires.powers_value_2.0
 
 pub returns : goal.returns
 unfolding drive_at
-returns c = rw (c.power_of.ensures, c.before.amount_at-amount.ensures)
+returns c = rw (c.power_of.ensures, c.amount_at-amount.ensures)

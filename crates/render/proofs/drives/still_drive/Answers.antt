@@ -5,4 +5,4 @@ use Rattle.render.proofs.drives.still_drive.Goals as goal
 
 pub returns : goal.returns
 unfolding drive_at amount_at
-returns c = rw (c.power_of.ensures, c.before.percent-amount.ensures)
+returns c = rw (c.power_of.ensures, c.percent-amount.ensures)

@@ -7,56 +7,54 @@ use Rattle.controls.proofs.LentLaws.{given_by_length}
 use Rattle.render.specs.Frames.{frame_at}
 use Rattle.render.proofs.InputLaws.{row_read}
 use Rattle.render.proofs.frame.frame_at.Goals as goal
+use Rattle.render.proofs.frame.frame_at.Goals.{After-drive1-1, After-place-at, Start}
 
-abbrev start : goal.After-drive1-1 → goal.Start
-start c = c.before.before.before.before.before.before.before.before.before.before.before.before.before.before
+near : (c : After-place-at) → c.place-at.result < 2097152
+near c = rw c.place-at.ensures c.requires.fact_2.1.near
 
-near : (c : goal.After-place-at) → c.place-at.result < 2097152
-near c = rw c.place-at.ensures (start c.before).requires.fact_2.1.near
+word_in : (c : After-place-at) → c.place-at.result < length c.args.words.now
+word_in c = rw c.place-at.ensures c.requires.fact_2.1.word
 
-word_in : (c : goal.After-place-at) → c.place-at.result < length (start c.before).args.words.now
-word_in c = rw c.place-at.ensures (start c.before).requires.fact_2.1.word
-
-step_in : (c : goal.After-place-at) → c.place-at.result < length (start c.before).args.steps.now
-step_in c = rw c.place-at.ensures (start c.before).requires.fact_2.1.step
+step_in : (c : After-place-at) → c.place-at.result < length c.args.steps.now
+step_in c = rw c.place-at.ensures c.requires.fact_2.1.step
 
 pub overflow_mul-host : goal.overflow_mul-host
-overflow_mul-host c = let p = (start c).requires.fact_2.1 in omega (arith, p.inside, p.few)
+overflow_mul-host c = let p = c.requires.fact_2.1 in omega (arith, p.inside, p.few)
 
 pub overflow_add-host : goal.overflow_add-host
-overflow_add-host c = let p = (start c).requires.fact_2.1 in omega (arith, p.inside, p.few)
+overflow_add-host c = let p = c.requires.fact_2.1 in omega (arith, p.inside, p.few)
 
 pub place-at-requires : goal.place-at-requires
-place-at-requires c = let p = (start c).requires.fact_2.1 in (omega arith, p.spot.inside, p.spot.few)
+place-at-requires c = let p = c.requires.fact_2.1 in (omega arith, p.spot.inside, p.spot.few)
 
 -- PORT: a record of ['powers_value_1', 'powers_value_2', 'powers_value_3', 'power0_value_1', 'power0_value_2']
 pub frame_of-requires : goal.frame_of-requires
-frame_of-requires c = let p = (start c.before.before.before).requires in (p.0, (p.1.1.entries, (p.1.1.samples, (p.1.0.power0, p.1.0.power1))))
+frame_of-requires c = let p = c.requires in (p.0, (p.1.1.entries, (p.1.1.samples, (p.1.0.power0, p.1.0.power1))))
 
 pub returns : goal.returns
 unfolding frame_at
 returns c =
-    let p = (start c.before.before.before.before).requires.fact_2.1 in
+    let p = c.requires.fact_2.1 in
     rw (
       step,
       step,
       given_by_length,
       given_by_length,
-      ← c.before.before.before.before.before.before.before.heard_at-heard0.ensures,
-      ← c.before.before.before.before.before.before.heard_at-heard1.ensures,
+      ← c.heard_at-heard0.ensures,
+      ← c.heard_at-heard1.ensures,
       row_read _ _ _ _ _ _ p.inside,
       row_read _ _ _ _ _ _ p.inside,
-      ← c.before.before.before.place-at.ensures,
+      ← c.place-at.ensures,
     ) c.frame_of.ensures
 
 pub offset_bounds-words-at : goal.offset_bounds-words-at
 offset_bounds-words-at c = omega (arith, near c)
 
 pub bounds-words-at : goal.bounds-words-at
-bounds-words-at c = word_in c.before
+bounds-words-at c = word_in (goal.at.bounds-words-at c).After-place-at
 
 pub offset_bounds-steps-at : goal.offset_bounds-steps-at
-offset_bounds-steps-at c = omega (arith, near c.before)
+offset_bounds-steps-at c = omega (arith, near (goal.at.offset_bounds-steps-at c).After-place-at)
 
 pub bounds-steps-at : goal.bounds-steps-at
-bounds-steps-at c = step_in c.before.before
+bounds-steps-at c = step_in (goal.at.bounds-steps-at c).After-place-at

@@ -5,4 +5,4 @@ use Rattle.render.proofs.frame.full_frame.Goals as goal
 
 pub returns : goal.returns
 unfolding frame_of
-returns c = rw (given c.before.before.before.before.before.sum_of-raw.ensures, given c.before.before.shape_of-shaped.ensures)
+returns c = rw (given c.sum_of-raw.ensures, given c.shape_of-shaped.ensures)

@@ -7,53 +7,51 @@ use Rattle.render.specs.Frames.{Frames}
 use Rattle.render.proofs.InputLaws.{host_rows, host_room}
 use Rattle.render.proofs.FrameLaws.{hosts_none, hosts_more, hosts_done}
 use Rattle.render.proofs.frames.render_hosts.Goals as goal
+use Rattle.render.proofs.frames.render_hosts.Goals.{At-loop-k, Start}
 
-abbrev start : goal.At-loop-k → goal.Start
-start c = c.before.before.before.before.before.before.before.before.before.before.before.before.before.before.before.before.before.before
-
-abbrev lends : goal.Start → Lent
+abbrev lends : Start → Lent
 lends c =
     let a = c.args in
     lent a.base0.now a.base1.now a.mod0.now a.mod1.now a.source0.now a.source1.now a.curve.now a.cycle.now a.words.now a.steps.now a.inner.now
 
 -- the host frames so far, of this block
-so_far : (c : goal.At-loop-k)
-    → let a = (start c).args in
-    Frames a.b (inputs_of a.b.shaper (lends (start c)) a.lane) a.lane (a.r.first * a.b.shaper.factor) 0 (c.loop-k.k * a.b.shaper.factor) a.v c.loop-k.state a.work.now c.loop-k.work
-so_far c = let a = (start c).args in c.loop-k.invariant.1 a.b.rate a.b.designs c.before.fm_scale-scale.ensures
+so_far : (c : At-loop-k)
+    → let a = c.args in
+    Frames a.b (inputs_of a.b.shaper (lends (UP.Start c)) a.lane) a.lane (a.r.first * a.b.shaper.factor) 0 (c.loop-k.k * a.b.shaper.factor) a.v c.loop-k.state a.work.now c.loop-k.work
+so_far c = let a = c.args in c.loop-k.invariant.1 a.b.rate a.b.designs c.fm_scale-scale.ensures
 
 pub fm_scale-scale-requires : goal.fm_scale-scale-requires
-fm_scale-scale-requires c = let p = c.before.before.before.before.before.before.before.before.before.before.before.before.before.before.before.before.requires.powers_value_2.1.0 in (p.rate, p.factor_most)
+fm_scale-scale-requires c = let p = c.requires.powers_value_2.1.0 in (p.rate, p.factor_most)
 
 pub loop-k-init : goal.loop-k-init
 loop-k-init c = (omega arith, hosts_none _ _ _ _ _ _ _)
 
 pub overflow_add-first : goal.overflow_add-first
-overflow_add-first c = let p = (start c.before).requires.powers_value_2.1.0 in omega (arith, p.range, p.frames)
+overflow_add-first c = let p = c.requires.powers_value_2.1.0 in omega (arith, p.range, p.frames)
 
 pub overflow_mul-k : goal.overflow_mul-k
-overflow_mul-k c = let p = (start c.before).requires.powers_value_2.1.0 in omega (arith, host_rows p c.before.loop-k.k c.loop-k-test.true)
+overflow_mul-k c = let p = c.requires.powers_value_2.1.0 in omega (arith, host_rows p c.loop-k.k c.loop-k-test.true)
 
 -- PORT: a record of ['powers_value_1', 'powers_value_2', 'powers_value_3', 'stills', 'readable']
 pub render_host-state-requires : goal.render_host-state-requires
 render_host-state-requires c =
-    let l = c.before.before in
-    let p = (start l).requires in
-    (p.0, (p.1.1.1.0, (host_room p.1.1.0 l.loop-k.k c.before.loop-k-test.true p.1.0 (rw (so_far l).size p.1.1.1.1.1.1), (p.1.1.1.1.0, p.1.1.1.1.1.0))))
+    let l = (goal.at.render_host-state-requires c).At-loop-k in
+    let p = c.requires in
+    (p.0, (p.1.1.1.0, (host_room p.1.1.0 l.loop-k.k c.loop-k-test.true p.1.0 (rw (so_far l).size p.1.1.1.1.1.1), (p.1.1.1.1.0, p.1.1.1.1.1.0))))
 
 pub loop-k-preserved : goal.loop-k-preserved
 loop-k-preserved c =
-    let l = c.before.before.before.before.before in
-    (omega (arith, c.before.before.before.before.loop-k-test.true), hosts_more _ _ _ _ _ l.loop-k.k _ _ _ _ _ _ (start l).requires.powers_value_2.0 l.loop-k.invariant.1 c.before.before.render_host-state.ensures)
+    let l = (goal.at.loop-k-preserved c).At-loop-k in
+    (omega (arith, c.loop-k-test.true), hosts_more _ _ _ _ _ l.loop-k.k _ _ _ _ _ _ c.requires.powers_value_2.0 l.loop-k.invariant.1 c.render_host-state.ensures)
 
 pub returns : goal.returns
 returns c =
-    let l = c.before in
-    let a = (start l).args in
-    hosts_done _ _ _ _ _ l.loop-k.k a.r.count _ _ _ _ (omega arith) l.loop-k.invariant.1 a.b.rate a.b.designs l.before.fm_scale-scale.ensures
+    let l = (goal.at.returns c).At-loop-k in
+    let a = c.args in
+    hosts_done _ _ _ _ _ l.loop-k.k a.r.count _ _ _ _ (omega arith) l.loop-k.invariant.1 a.b.rate a.b.designs c.fm_scale-scale.ensures
 
 pub loop-k-smaller : goal.loop-k-smaller
-loop-k-smaller c = omega (arith, c.before.before.before.before.loop-k-test.true)
+loop-k-smaller c = omega (arith, c.loop-k-test.true)
 
 pub shape_of-work : goal.shape_of-work
-shape_of-work c = (so_far c.before).size
+shape_of-work c = (so_far (goal.at.shape_of-work c).At-loop-k).size

@@ -6,45 +6,43 @@ use Rattle.limits.proofs.LengthLaws.{span_in}
 use Rattle.render.specs.Frames.{host_at}
 use Rattle.render.proofs.InputLaws.{row_read, slope_in, slope_near}
 use Rattle.render.proofs.host.load_host.Goals as goal
+use Rattle.render.proofs.host.load_host.Goals.{After-place-at, Start}
 
-abbrev start : goal.After-place-at → goal.Start
-start c = c.before.before.before.before.before.before.before.before.before.before.before.before.before.before
+near : (c : After-place-at) → c.place-at.result < 8192
+near c = rw c.place-at.ensures (slope_near c.requires.powers_value_2.1)
 
-near : (c : goal.After-place-at) → c.place-at.result < 8192
-near c = rw c.place-at.ensures (slope_near (start c).requires.powers_value_2.1)
-
-at_in : (c : goal.After-place-at) → c.place-at.result < length (start c).args.inner.now
-at_in c = omega (arith, c.place-at.ensures, slope_in (start c).requires.powers_value_2.1)
+at_in : (c : After-place-at) → c.place-at.result < length c.args.inner.now
+at_in c = omega (arith, c.place-at.ensures, slope_in c.requires.powers_value_2.1)
 
 -- PORT: a record of ['powers_value_1', 'powers_value_2', 'spot_1', 'spot_2']
 pub drive_at-drive0-requires : goal.drive_at-drive0-requires
 drive_at-drive0-requires c =
-    let p = c.before.before.before.before.before.before.before.before.before.before.requires in
+    let p = c.requires in
     (p.0, (p.1.0.first, (p.1.1.spot, p.1.1.held0)))
 
 -- PORT: a record of ['powers_value_1', 'powers_value_2', 'spot_1', 'spot_2']
 pub drive_at-drive1-requires : goal.drive_at-drive1-requires
 drive_at-drive1-requires c =
-    let p = c.before.before.before.before.before.before.before.before.before.before.before.before.requires in
+    let p = c.requires in
     (p.0, (p.1.0.second, (p.1.1.spot, p.1.1.held1)))
 
 pub place-at-requires : goal.place-at-requires
 place-at-requires c =
-    let spot = c.before.before.before.before.before.before.before.before.before.before.before.before.before.requires.powers_value_2.1.spot in
+    let spot = c.requires.powers_value_2.1.spot in
     (omega (arith, spot.row, spot.block), spot.inside, spot.few)
 
 pub returns : goal.returns
 unfolding host_at
 returns c =
     rw (
-      row_read _ _ _ _ _ _ (span_in _ _ (start c.before).requires.powers_value_2.1.spot.row),
-      ← c.before.before.before.before.drive_at-drive0.ensures,
-      ← c.before.before.drive_at-drive1.ensures,
-      ← c.before.place-at.ensures,
+      row_read _ _ _ _ _ _ (span_in _ _ c.requires.powers_value_2.1.spot.row),
+      ← c.drive_at-drive0.ensures,
+      ← c.drive_at-drive1.ensures,
+      ← c.place-at.ensures,
     )
 
 pub offset_bounds-inner-at : goal.offset_bounds-inner-at
 offset_bounds-inner-at c = omega (arith, near c)
 
 pub bounds-inner-at : goal.bounds-inner-at
-bounds-inner-at c = at_in c.before
+bounds-inner-at c = at_in (goal.at.bounds-inner-at c).After-place-at

@@ -5,61 +5,59 @@ use native.Mathlib.Omega.{arith}
 use lib.ListN.{length, length-set}
 use Rattle.render.proofs.PlainLaws.{reads_none, reads_more, word_in, word_near, work_in, work_near}
 use Rattle.render.proofs.plain.read_lane.Goals as goal
+use Rattle.render.proofs.plain.read_lane.Goals.{After-place-at, After-place-to, At-loop-k, Start}
 
-abbrev start : goal.At-loop-k → goal.Start
-start c = c.before.before.before.before
+read-near : (c : After-place-at) → c.place-at.result < 2097152
+read-near c = omega (arith, c.place-at.ensures, word_near c.requires c.loop-k.k c.loop-k-test.true)
 
-read-near : (c : goal.After-place-at) → c.place-at.result < 2097152
-read-near c = omega (arith, c.place-at.ensures, word_near (start c.before.before).requires c.before.before.loop-k.k c.before.loop-k-test.true)
+read-in : (c : After-place-at) → c.place-at.result < length c.args.words.now
+read-in c = omega (arith, c.place-at.ensures, word_in c.requires c.loop-k.k c.loop-k-test.true)
 
-read-in : (c : goal.After-place-at) → c.place-at.result < length (start c.before.before).args.words.now
-read-in c = omega (arith, c.place-at.ensures, word_in (start c.before.before).requires c.before.before.loop-k.k c.before.loop-k-test.true)
+write-near : (c : After-place-to) → c.place-to.result < 2097152
+write-near c = omega (arith, c.place-to.ensures, work_near c.requires c.loop-k.k c.loop-k-test.true)
 
-write-near : (c : goal.After-place-to) → c.place-to.result < 2097152
-write-near c = omega (arith, c.place-to.ensures, work_near (start c.before.before.before).requires c.before.before.before.loop-k.k c.before.before.loop-k-test.true)
-
-write-in : (c : goal.After-place-to) → c.place-to.result < length c.before.before.before.loop-k.work
+write-in : (c : After-place-to) → c.place-to.result < length c.loop-k.work
 write-in c =
-    omega (arith, c.place-to.ensures, c.before.before.before.loop-k.invariant.1, work_in (start c.before.before.before).requires c.before.before.before.loop-k.k c.before.before.loop-k-test.true)
+    omega (arith, c.place-to.ensures, c.loop-k.invariant.1, work_in c.requires c.loop-k.k c.loop-k-test.true)
 
 pub overflow_add-from : goal.overflow_add-from
-overflow_add-from c = let p = (start c.before).requires in omega (arith, p.frames)
+overflow_add-from c = let p = c.requires in omega (arith, p.frames)
 
 pub place-at-requires : goal.place-at-requires
-place-at-requires c = let p = (start c.before).requires in (omega (arith, p.frames), p.inside, p.few)
+place-at-requires c = let p = c.requires in (omega (arith, p.frames), p.inside, p.few)
 
 pub place-to-requires : goal.place-to-requires
-place-to-requires c = let p = (start c.before.before).requires in (omega (arith, p.frames), p.inside, p.few)
+place-to-requires c = let p = c.requires in (omega (arith, p.frames), p.inside, p.few)
 
 pub loop-k-preserved : goal.loop-k-preserved
 loop-k-preserved c =
-    let l = c.before.before.before.before.before in (
-      omega (arith, c.before.before.before.before.loop-k-test.true),
+    let l = (goal.at.loop-k-preserved c).At-loop-k in (
+      omega (arith, c.loop-k-test.true),
       rw length-set l.loop-k.invariant.1,
-      rw c.before.before.place-to.ensures
-          (reads_more _ _ _ _ _ l.loop-k.k _ _ _ (start l).requires.inside (omega (arith, c.before.before.place-to.ensures, write-in c.before.before))
-          (rw (← c.before.before.before.place-at.ensures) c.read_cycle.ensures) l.loop-k.invariant.2),
+      rw c.place-to.ensures
+          (reads_more _ _ _ _ _ l.loop-k.k _ _ _ c.requires.inside (omega (arith, c.place-to.ensures, write-in (goal.at.loop-k-preserved c).After-place-to))
+          (rw (← c.place-at.ensures) c.read_cycle.ensures) l.loop-k.invariant.2),
     )
 
 pub returns : goal.returns
 returns c =
-    let e : c.before.loop-k.k ≡ (start c.before).args.count = omega arith in
-    rw (← e) c.before.loop-k.invariant.2
+    let e : c.loop-k.k ≡ c.args.count = omega arith in
+    rw (← e) c.loop-k.invariant.2
 
 pub loop-k-init : goal.loop-k-init
 loop-k-init c = (omega arith, refl, reads_none _ _ _ _ _ _)
 
 pub offset_bounds-words-at : goal.offset_bounds-words-at
-offset_bounds-words-at c = omega (arith, read-near c.before)
+offset_bounds-words-at c = omega (arith, read-near (goal.at.offset_bounds-words-at c).After-place-at)
 
 pub bounds-words-at : goal.bounds-words-at
-bounds-words-at c = read-in c.before.before
+bounds-words-at c = read-in (goal.at.bounds-words-at c).After-place-at
 
 pub offset_bounds-work-to : goal.offset_bounds-work-to
-offset_bounds-work-to c = omega (arith, write-near c.before.before)
+offset_bounds-work-to c = omega (arith, write-near (goal.at.offset_bounds-work-to c).After-place-to)
 
 pub bounds-work-to : goal.bounds-work-to
-bounds-work-to c = write-in c.before.before
+bounds-work-to c = write-in (goal.at.bounds-work-to c).After-place-to
 
 pub shape_of-work : goal.shape_of-work
-shape_of-work c = c.before.loop-k.invariant.1
+shape_of-work c = c.loop-k.invariant.1

@@ -9,9 +9,10 @@ use Rattle.controls.proofs.LentLaws.{row_read}
 use Rattle.shaper.specs.Lane.{control0_at, control1_at, reads_at}
 use Rattle.shaper.proofs.TakenLaws.{span_held, span_small, table_held}
 use Rattle.shaper.proofs.lane.reads_at.Goals as goal
+use Rattle.shaper.proofs.lane.reads_at.Goals.{After-control_at-control0, After-control_at-control1, After-fm_scale-scale, After-numbers-1, After-place-at, After-power_of-power0, After-power_of-power1, Start}
 
 -- `search` finds an earlier place by its type; past a call with many slices it does not come as far back as the entry
-unfoldable start : goal.After-numbers-1 → goal.Start
+unfoldable start : After-numbers-1 → Start
 start c = search
 
 -- PORT: a record of ['fact_1', 'fact_2', 'fact_3', 'fact_4']
@@ -38,13 +39,13 @@ power_of-power1-requires c = (start (search)).requires.fact_1
 pub offset_bounds-inner-at : goal.offset_bounds-inner-at
 unfolding start
 offset_bounds-inner-at c =
-    let at : goal.After-place-at = search in
+    let at : After-place-at = search in
     omega (arith, at.place-at.ensures, span_small (start (search)).requires.fact_2)
 
 pub bounds-inner-at : goal.bounds-inner-at
 unfolding start
 bounds-inner-at c =
-    let at : goal.After-place-at = search in
+    let at : After-place-at = search in
     let s = start (search) in
     subst (λ (i : ℕ). i < length s.args.inner.now) (sym at.place-at.ensures) (span_held s.requires.fact_2)
 
@@ -52,8 +53,8 @@ bounds-inner-at c =
 pub reads_of-requires : goal.reads_of-requires
 unfolding start
 reads_of-requires c =
-    let power1 : goal.After-power_of-power1 = search in
-    let power0 : goal.After-power_of-power0 = search in
+    let power1 : After-power_of-power1 = search in
+    let power0 : After-power_of-power0 = search in
     let s = start (search) in
     (s.requires.fact_1, (table_held s.args.curve.now s.requires.fact_2.entries, (power0.power_of-power0.ensures, power1.power_of-power1.ensures)))
 
@@ -61,10 +62,10 @@ reads_of-requires c =
 pub returns : goal.returns
 unfolding start reads_at control0_at control1_at
 returns c =
-    let at : goal.After-place-at = search in
-    let control1 : goal.After-control_at-control1 = search in
-    let control0 : goal.After-control_at-control0 = search in
-    let scaled : goal.After-fm_scale-scale = search in
+    let at : After-place-at = search in
+    let control1 : After-control_at-control1 = search in
+    let control0 : After-control_at-control0 = search in
+    let scaled : After-fm_scale-scale = search in
     let s = start (search) in (
       rw (
         given scaled.fm_scale-scale.ensures,

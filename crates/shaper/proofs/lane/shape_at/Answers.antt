@@ -2,9 +2,10 @@
 use Rattle.floats.specs.Steps.{given}
 use Rattle.shaper.specs.Lane.{control0_at, control1_at, shaped_at}
 use Rattle.shaper.proofs.lane.shape_at.Goals as goal
+use Rattle.shaper.proofs.lane.shape_at.Goals.{After-control_at-control0, After-control_at-control1, After-numbers-1, After-power_of-power0, Start}
 
 -- `search` finds an earlier place by its type; past a call with many slices it does not come as far back as the entry
-unfoldable start : goal.After-numbers-1 → goal.Start
+unfoldable start : After-numbers-1 → Start
 start c = search
 
 -- PORT: a record of ['fact_1', 'fact_2', 'fact_3', 'fact_4']
@@ -33,12 +34,12 @@ power_of-power1-requires c = (start (search)).requires.fact_1
 pub shape_of-requires : goal.shape_of-requires
 unfolding start
 shape_of-requires c =
-    let power0 : goal.After-power_of-power0 = search in
+    let power0 : After-power_of-power0 = search in
     ((start (search)).requires.fact_1, (power0.power_of-power0.ensures, c.power_of-power1.ensures))
 
 pub returns : goal.returns
 unfolding shaped_at control0_at control1_at
 returns c =
-    let control1 : goal.After-control_at-control1 = search in
-    let control0 : goal.After-control_at-control0 = search in
+    let control1 : After-control_at-control1 = search in
+    let control0 : After-control_at-control0 = search in
     rw (given control0.control_at-control0.ensures, given control1.control_at-control1.ensures) c.shape_of.ensures

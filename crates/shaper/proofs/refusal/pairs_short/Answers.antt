@@ -4,4 +4,4 @@ use Rattle.shaper.proofs.refusal.pairs_short.Goals as goal
 
 pub returns : goal.returns
 returns c =
-    rw (c.short-2.ensures, c.before.last_length.ensures, c.before.before.short.ensures, c.before.before.before.pairs_length.ensures)
+    rw (c.short-2.ensures, c.last_length.ensures, c.short.ensures, c.pairs_length.ensures)

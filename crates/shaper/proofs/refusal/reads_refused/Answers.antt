@@ -8,40 +8,41 @@ use Rattle.limits.proofs.LineLaws.{numbers_passed, good_lane, good_frame}
 use Rattle.shaper.specs.Refusal.{mode_line, frame_line}
 use Rattle.shaper.proofs.RefusalLaws.{reads_table}
 use Rattle.shaper.proofs.refusal.reads_refused.Goals as goal
+use Rattle.shaper.proofs.refusal.reads_refused.Goals.{After-numbers_refused-number, Else-number-ne0}
 
 -- what lines 1 to 5 say
-numbers : (c : goal.After-numbers_refused-number)
-    → let a = c.before.before.args in
+numbers : (c : After-numbers_refused-number)
+    → let a = c.args in
     c.numbers_refused-number.result
     ≡ first_of (number_lines (mode_line a.s) (bad_factor a.s.factor) (bad_lane a.s.lanes a.active a.lane) (frame_line a.s a.r a.frame) (bad_rate a.rate) false)
-numbers c = rw c.before.rate_bad.ensures at c.numbers_refused-number.ensures
+numbers c = rw c.rate_bad.ensures at c.numbers_refused-number.ensures
 
 -- none of them holds
-small : (c : goal.Else-number-ne0) → let a = c.before.before.before.args in (a.s.frames ≤ 4096) × (a.s.lanes ≤ 64)
+small : (c : Else-number-ne0) → let a = c.args in (a.s.frames ≤ 4096) × (a.s.lanes ≤ 64)
 small c =
-    let p = numbers_passed _ _ _ _ _ _ (sym (numbers c.before) ∙ c.if-number-ne0.false) in
+    let p = numbers_passed _ _ _ _ _ _ (sym (numbers (UP.After-numbers_refused-number c)) ∙ c.if-number-ne0.false) in
     ((good_frame _ _ _ _ _ p.frames).0, (good_lane _ _ _ p.lanes).1)
 
 pub returns-then-number-ne0 : goal.returns-then-number-ne0
-returns-then-number-ne0 c = rw (reads_table _ _ _ _ _ _ _ _ _ _ _, ← numbers c.before, ne_eqb _ 0 c.if-number-ne0.true)
+returns-then-number-ne0 c = rw (reads_table _ _ _ _ _ _ _ _ _ _ _, ← numbers (goal.at.returns-then-number-ne0 c).After-numbers_refused-number, ne_eqb _ 0 c.if-number-ne0.true)
 
 pub returns-then-reads_short : goal.returns-then-reads_short
 returns-then-reads_short c =
-    let d = c.before.before in
-    rw (reads_table _ _ _ _ _ _ _ _ _ _ _, ← numbers d.before, d.if-number-ne0.false, ← c.before.reads_short.ensures, c.if-reads_short.true)
+    let d = (goal.at.returns-then-reads_short c).Else-number-ne0 in
+    rw (reads_table _ _ _ _ _ _ _ _ _ _ _, ← numbers (goal.at.returns-then-reads_short c).After-numbers_refused-number, d.if-number-ne0.false, ← c.reads_short.ensures, c.if-reads_short.true)
 
 pub returns-then-carry_short : goal.returns-then-carry_short
 returns-then-carry_short c =
-    let d = c.before.before.before.before in
-    rw (reads_table _ _ _ _ _ _ _ _ _ _ _, ← numbers d.before, d.if-number-ne0.false, ← c.before.before.before.reads_short.ensures, c.before.before.if-reads_short.false, ← c.before.carry_short.ensures, c.if-carry_short.true)
+    let d = (goal.at.returns-then-carry_short c).Else-number-ne0 in
+    rw (reads_table _ _ _ _ _ _ _ _ _ _ _, ← numbers (goal.at.returns-then-carry_short c).After-numbers_refused-number, d.if-number-ne0.false, ← c.reads_short.ensures, c.if-reads_short.false, ← c.carry_short.ensures, c.if-carry_short.true)
 
 pub returns : goal.returns
 returns c =
-    let d = c.before.before.before.before in
-    rw (reads_table _ _ _ _ _ _ _ _ _ _ _, ← numbers d.before, d.if-number-ne0.false, ← c.before.before.before.reads_short.ensures, c.before.before.if-reads_short.false, ← c.before.carry_short.ensures, c.if-carry_short.false)
+    let d = (goal.at.returns c).Else-number-ne0 in
+    rw (reads_table _ _ _ _ _ _ _ _ _ _ _, ← numbers (goal.at.returns c).After-numbers_refused-number, d.if-number-ne0.false, ← c.reads_short.ensures, c.if-reads_short.false, ← c.carry_short.ensures, c.if-carry_short.false)
 
 pub reads_short-requires : goal.reads_short-requires
 reads_short-requires c = small c
 
 pub carry_short-requires : goal.carry_short-requires
-carry_short-requires c = (small c.before.before).1
+carry_short-requires c = (small (goal.at.carry_short-requires c).Else-number-ne0).1

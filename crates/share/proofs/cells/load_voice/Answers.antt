@@ -5,12 +5,12 @@ use Rattle.share.proofs.cells.load_voice.Goals as goal
 
 pub returns : goal.returns
 returns c =
-    let a = c.before.before.before.before.before.before.before.before.before.before.args in
+    let a = c.args in
     rw (
-      c.before.before.before.before.before.before.load_pair-pairs0.ensures,
-      c.before.before.before.before.before.load_pair-pairs1.ensures,
-      c.before.before.before.before.place-at0.ensures,
-      c.before.before.before.place-at1.ensures,
+      c.load_pair-pairs0.ensures,
+      c.load_pair-pairs1.ensures,
+      c.place-at0.ensures,
+      c.place-at1.ensures,
       col_at nan _ _ a.fm.now 0,
       col_at nan _ _ a.fm.now 1,
       col_at nan _ _ a.last.now 0,

@@ -5,51 +5,49 @@ use native.Mathlib.Omega.{arith}
 use lib.ListN.{length, length-set}
 use Rattle.share.proofs.ShareLaws.{copies_none, copies_more, from_in, from_near, to_in, to_near}
 use Rattle.share.proofs.lane.copy_lane.Goals as goal
+use Rattle.share.proofs.lane.copy_lane.Goals.{After-place-from, After-place-to, At-loop-k, Start}
 
-abbrev start : goal.At-loop-k → goal.Start
-start c = c.before.before.before
+read-near : (c : After-place-from) → c.place-from.result < 262144
+read-near c = omega (arith, c.place-from.ensures, from_near c.requires c.loop-k.k c.loop-k-test.true)
 
-read-near : (c : goal.After-place-from) → c.place-from.result < 262144
-read-near c = omega (arith, c.place-from.ensures, from_near (start c.before.before).requires c.before.before.loop-k.k c.before.loop-k-test.true)
+read-in : (c : After-place-from) → c.place-from.result < length c.args.work.now
+read-in c = omega (arith, c.place-from.ensures, from_in c.requires c.loop-k.k c.loop-k-test.true)
 
-read-in : (c : goal.After-place-from) → c.place-from.result < length (start c.before.before).args.work.now
-read-in c = omega (arith, c.place-from.ensures, from_in (start c.before.before).requires c.before.before.loop-k.k c.before.loop-k-test.true)
+write-near : (c : After-place-to) → c.place-to.result < 262144
+write-near c = omega (arith, c.place-to.ensures, to_near c.requires c.loop-k.k c.loop-k-test.true)
 
-write-near : (c : goal.After-place-to) → c.place-to.result < 262144
-write-near c = omega (arith, c.place-to.ensures, to_near (start c.before.before.before).requires c.before.before.before.loop-k.k c.before.before.loop-k-test.true)
-
-write-in : (c : goal.After-place-to) → c.place-to.result < length c.before.before.before.loop-k.output
+write-in : (c : After-place-to) → c.place-to.result < length c.loop-k.output
 write-in c =
-    omega (arith, c.place-to.ensures, c.before.before.before.loop-k.invariant.1, to_in (start c.before.before.before).requires c.before.before.before.loop-k.k c.before.before.loop-k-test.true)
+    omega (arith, c.place-to.ensures, c.loop-k.invariant.1, to_in c.requires c.loop-k.k c.loop-k-test.true)
 
 pub loop-k-preserved : goal.loop-k-preserved
 loop-k-preserved c =
-    let l = c.before.before.before.before in (
-      omega (arith, c.before.before.before.loop-k-test.true),
+    let l = (goal.at.loop-k-preserved c).At-loop-k in (
+      omega (arith, c.loop-k-test.true),
       rw length-set l.loop-k.invariant.1,
-      rw (c.before.place-to.ensures, c.before.before.place-from.ensures)
-          (copies_more _ _ _ _ l.loop-k.k _ _ (start l).requires.inside (omega (arith, c.before.place-to.ensures, write-in c.before)) l.loop-k.invariant.2),
+      rw (c.place-to.ensures, c.place-from.ensures)
+          (copies_more _ _ _ _ l.loop-k.k _ _ c.requires.inside (omega (arith, c.place-to.ensures, write-in (goal.at.loop-k-preserved c).After-place-to)) l.loop-k.invariant.2),
     )
 
 pub returns : goal.returns
 returns c =
-    let e : c.before.loop-k.k ≡ (start c.before).args.count = omega arith in
-    rw (← e) c.before.loop-k.invariant.2
+    let e : c.loop-k.k ≡ c.args.count = omega arith in
+    rw (← e) c.loop-k.invariant.2
 
 pub loop-k-init : goal.loop-k-init
 loop-k-init c = (omega arith, refl, copies_none _ _ _ _ _)
 
 pub offset_bounds-work-from : goal.offset_bounds-work-from
-offset_bounds-work-from c = omega (arith, read-near c.before)
+offset_bounds-work-from c = omega (arith, read-near (goal.at.offset_bounds-work-from c).After-place-from)
 
 pub bounds-work-from : goal.bounds-work-from
-bounds-work-from c = read-in c.before.before
+bounds-work-from c = read-in (goal.at.bounds-work-from c).After-place-from
 
 pub offset_bounds-output-to : goal.offset_bounds-output-to
-offset_bounds-output-to c = omega (arith, write-near c.before)
+offset_bounds-output-to c = omega (arith, write-near (goal.at.offset_bounds-output-to c).After-place-to)
 
 pub bounds-output-to : goal.bounds-output-to
-bounds-output-to c = write-in c.before
+bounds-output-to c = write-in (goal.at.bounds-output-to c).After-place-to
 
 pub shape_of-output : goal.shape_of-output
-shape_of-output c = c.before.loop-k.invariant.1
+shape_of-output c = c.loop-k.invariant.1

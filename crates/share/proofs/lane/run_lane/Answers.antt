@@ -6,17 +6,18 @@ use Rattle.render.specs.Promises.{lent}
 use Rattle.share.specs.Share.{Buffers, buffers}
 use Rattle.share.proofs.ShareLaws.{cut_tables, cut_readable, voice_held, stages_taken, rows_copied, shared}
 use Rattle.share.proofs.lane.run_lane.Goals as goal
+use Rattle.share.proofs.lane.run_lane.Goals.{After-copy_lane, After-decimate_lane, After-load_voice-v, After-render_lane-end, After-stages_of-stages, After-store_voice, After-table-1, Start}
 
-abbrev lends : goal.Start → Lent
+abbrev lends : Start → Lent
 lends c =
     let a = c.args in
     lent a.base0.now a.base1.now a.mod0.now a.mod1.now a.source0.now a.source1.now a.curve.now a.cycle.now a.words.now a.steps.now a.inner.now
 
-abbrev had : goal.Start → Buffers
+abbrev had : Start → Buffers
 had c = let a = c.args in buffers a.output.now a.work.now a.pairs.now a.fm.now a.last.now a.dec.now
 
 -- ---- `search` finds an earlier place by its type; from the last calls it comes no further back than the tables
-unfoldable start : goal.After-table-1 → goal.Start
+unfoldable start : After-table-1 → Start
 start c = search
 
 -- PORT: gone Need-slice-bounds-table-end
@@ -60,8 +61,8 @@ store_voice-requires c =
 pub decimate_lane-requires : goal.decimate_lane-requires
 unfolding start
 decimate_lane-requires c =
-    let staged : goal.After-stages_of-stages = search in
-    let rendered : goal.After-render_lane-end = search in
+    let staged : After-stages_of-stages = search in
+    let rendered : After-render_lane-end = search in
     let s = start (search) in
     let (_, (inside, (limits, (_, writable)))) = s.requires in
     (stages_taken {w = had s} limits writable _ _ staged.stages_of-stages.ensures rendered.render_lane-end.ensures.size, inside)
@@ -69,8 +70,8 @@ decimate_lane-requires c =
 pub copy_lane-requires : goal.copy_lane-requires
 unfolding start
 copy_lane-requires c =
-    let decimated : goal.After-decimate_lane = search in
-    let rendered : goal.After-render_lane-end = search in
+    let decimated : After-decimate_lane = search in
+    let rendered : After-render_lane-end = search in
     let s = start (search) in
     let (_, (inside, (limits, (_, writable)))) = s.requires in
     rows_copied {w = had s} limits writable _ _ inside (decimated.decimate-lane.kept.1.1.1.1.1.0 ∙ rendered.render_lane-end.ensures.size)
@@ -78,12 +79,12 @@ copy_lane-requires c =
 pub returns : goal.returns
 unfolding start
 returns c =
-    let copied : goal.After-copy_lane = search in
-    let decimated : goal.After-decimate_lane = search in
-    let staged : goal.After-stages_of-stages = search in
-    let stored : goal.After-store_voice = search in
-    let rendered : goal.After-render_lane-end = search in
-    let loaded : goal.After-load_voice-v = search in
+    let copied : After-copy_lane = search in
+    let decimated : After-decimate_lane = search in
+    let staged : After-stages_of-stages = search in
+    let stored : After-store_voice = search in
+    let rendered : After-render_lane-end = search in
+    let loaded : After-load_voice-v = search in
     let s = start (search) in
     shared _ _ (lends s) _ _ _ _ _ _ _ _ _ _ _ _ _ _ _ _ _ s.requires.powers_value_2.0 loaded.load_voice-v.ensures rendered.render_lane-end.ensures stored.store_voice.ensures
     staged.stages_of-stages.ensures decimated.decimate_lane.ensures copied.copy_lane.ensures

@@ -6,19 +6,19 @@ use Rattle.slope.proofs.steepest.slope_of.Goals as goal
 
 pub returns-in-1 : goal.returns-in-1
 unfolding slope_of case_of
-returns-in-1 c = rw c.before.in_default.keys1 c.exp2.ensures
+returns-in-1 c = rw c.in_default.keys1 c.exp2.ensures
 
 pub returns-in-2 : goal.returns-in-2
 unfolding slope_of case_of
-returns-in-2 c = rw c.before.in_default.keys2 (rw c.before.in_default.keys2 at c.pinch_slope.ensures)
+returns-in-2 c = rw c.in_default.keys2 (rw c.in_default.keys2 at c.pinch_slope.ensures)
 
 pub returns-in-3 : goal.returns-in-3
 unfolding slope_of case_of
-returns-in-3 c = rw c.before.in_default.keys3 (rw c.before.in_default.keys3 at c.pinch_slope-in-3.ensures)
+returns-in-3 c = rw c.in_default.keys3 (rw c.in_default.keys3 at c.pinch_slope-in-3.ensures)
 
 pub returns-in-4 : goal.returns-in-4
 unfolding slope_of case_of
-returns-in-4 c = rw c.before.in_default.keys4 (rw c.before.in_default.keys4 at c.pinch_slope-in-4.ensures)
+returns-in-4 c = rw c.in_default.keys4 (rw c.in_default.keys4 at c.pinch_slope-in-4.ensures)
 
 pub returns-in-5 : goal.returns-in-5
 unfolding slope_of case_of
@@ -26,19 +26,19 @@ returns-in-5 c = rw c.in_default.keys5
 
 pub returns-in-6 : goal.returns-in-6
 unfolding slope_of case_of
-returns-in-6 c = rw c.before.in_default.keys6 (rw c.before.in_default.keys6 at c.lean_slope.ensures)
+returns-in-6 c = rw c.in_default.keys6 (rw c.in_default.keys6 at c.lean_slope.ensures)
 
 pub returns-in-7 : goal.returns-in-7
 unfolding slope_of case_of
-returns-in-7 c = rw c.before.in_default.keys7 (rw c.before.in_default.keys7 at c.lean_slope-in-7.ensures)
+returns-in-7 c = rw c.in_default.keys7 (rw c.in_default.keys7 at c.lean_slope-in-7.ensures)
 
 pub returns-in-8 : goal.returns-in-8
 unfolding slope_of case_of
-returns-in-8 c = rw c.before.in_default.keys8 (rw c.before.in_default.keys8 at c.lean_slope-in-8.ensures)
+returns-in-8 c = rw c.in_default.keys8 (rw c.in_default.keys8 at c.lean_slope-in-8.ensures)
 
 pub returns-in-10 : goal.returns-in-10
 unfolding slope_of case_of
-returns-in-10 c = rw c.before.in_default.keys9 c.lean_steepest.ensures
+returns-in-10 c = rw c.in_default.keys9 c.lean_steepest.ensures
 
 pub returns-in-11 : goal.returns-in-11
 unfolding slope_of case_of

@@ -6,7 +6,7 @@ use Rattle.slope.proofs.steepest.stretch.Goals as goal
 
 pub returns-then-mode_bad : goal.returns-then-mode_bad
 unfolding stretch_answer
-returns-then-mode_bad c = rw (← c.before.mode_bad.ensures, c.if-mode_bad.true)
+returns-then-mode_bad c = rw (← c.mode_bad.ensures, c.if-mode_bad.true)
 
 pub stretch_of-value-requires : goal.stretch_of-value-requires
 unfolding entries
@@ -14,4 +14,4 @@ stretch_of-value-requires c = refl
 
 pub returns : goal.returns
 unfolding stretch_answer
-returns c = rw (← c.before.before.before.mode_bad.ensures, c.before.before.if-mode_bad.false, ← c.stretch_of-value.ensures)
+returns c = rw (← c.mode_bad.ensures, c.if-mode_bad.false, ← c.stretch_of-value.ensures)

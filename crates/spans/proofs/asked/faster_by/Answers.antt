@@ -9,4 +9,4 @@ returns-then-added-step c = rw (taken _ _ c.if-added-step.true)
 
 pub returns : goal.returns
 unfolding faster_by
-returns c = rw (left _ _ c.before.before.if-added-step.false, ← c.before.nearest_u32-increment.ensures) c.max.ensures
+returns c = rw (left _ _ c.if-added-step.false, ← c.nearest_u32-increment.ensures) c.max.ensures

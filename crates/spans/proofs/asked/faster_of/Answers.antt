@@ -4,12 +4,13 @@ use native.Mathlib.Omega.{arith}
 use Rattle.floats.specs.Steps.{given}
 use Rattle.spans.specs.Asked.{faster_of}
 use Rattle.spans.proofs.asked.faster_of.Goals as goal
+use Rattle.spans.proofs.asked.faster_of.Goals.{After-span_of-last}
 
-order : (c : goal.After-span_of-last) → c.before.Span-of.result ≤ c.span_of-last.result
-order c = rw (c.before.Span-of.ensures, c.span_of-last.ensures, c.before.before.looked_at-frames.ensures) c.before.before.before.before.before.requires.order
+order : (c : After-span_of-last) → c.Span-of.result ≤ c.span_of-last.result
+order c = rw (c.Span-of.ensures, c.span_of-last.ensures, c.looked_at-frames.ensures) c.requires.order
 
-last : (c : goal.After-span_of-last) → c.span_of-last.result < c.before.before.before.before.before.args.rows
-last c = rw (c.span_of-last.ensures, c.before.before.looked_at-frames.ensures) c.before.before.before.before.before.requires.last
+last : (c : After-span_of-last) → c.span_of-last.result < c.args.rows
+last c = rw (c.span_of-last.ensures, c.looked_at-frames.ensures) c.requires.last
 
 pub overflow_sub-k : goal.overflow_sub-k
 overflow_sub-k c = let h = order c in omega arith
@@ -18,20 +19,20 @@ pub most_to-steepest-requires : goal.most_to-steepest-requires
 most_to-steepest-requires c =
     let a = order c in
     let b = last c in
-    let p = c.before.before.before.before.before.requires in
+    let p = c.requires in
     record { inside = p.inside; few = p.few; block = p.block; rows = omega arith; held = p.stretches }
 
 pub most_to-added-requires : goal.most_to-added-requires
 most_to-added-requires c =
-    let a = order c.before in
-    let b = last c.before in
-    let p = c.before.before.before.before.before.before.requires in
+    let a = order (goal.at.most_to-added-requires c).After-span_of-last in
+    let b = last (goal.at.most_to-added-requires c).After-span_of-last in
+    let p = c.requires in
     record { inside = p.inside; few = p.few; block = p.block; rows = omega arith; held = p.adds }
 
 pub returns : goal.returns
 unfolding faster_of
 returns c =
-    rw (← c.before.before.before.before.before.looked_at-frames.ensures, given c.before.before.before.before.Span-of.ensures, given c.before.before.before.span_of-last.ensures, given c.before.before.most_to-steepest.ensures, given c.before.most_to-added.ensures)
+    rw (← c.looked_at-frames.ensures, given c.Span-of.ensures, given c.span_of-last.ensures, given c.most_to-steepest.ensures, given c.most_to-added.ensures)
     c.faster_by.ensures
 
 pub overflow_add-k : goal.overflow_add-k

@@ -7,11 +7,12 @@ use lib.ListN.{length}
 use Rattle.spans.specs.Asked.{most_to}
 use Rattle.spans.proofs.ColumnLaws.{row_held, row_read}
 use Rattle.spans.proofs.asked.most_to.Goals as goal
+use Rattle.spans.proofs.asked.most_to.Goals.{After-place-at, At-loop-i, Start}
 
-at_in : (c : goal.After-place-at) → c.place-at.result < length c.before.before.before.before.args.xs.now
+at_in : (c : After-place-at) → c.place-at.result < length c.args.xs.now
 at_in c =
-    let s = c.before.before.before.before in
-    rw c.place-at.ensures (row_held _ _ _ _ _ _ (s.args.from + c.before.before.loop-i.i) s.requires (omega arith))
+    let s = (UP.Start c) in
+    rw c.place-at.ensures (row_held _ _ _ _ _ _ (s.args.from + c.loop-i.i) s.requires (omega arith))
 
 pub loop-i-init : goal.loop-i-init
 unfolding most_to
@@ -20,20 +21,20 @@ loop-i-init c = (omega arith, refl)
 pub loop-i-preserved : goal.loop-i-preserved
 unfolding most_to
 loop-i-preserved c =
-    let here = c.before.before.before.before in
-    let s = here.before.before in
+    let here = (goal.at.loop-i-preserved c).At-loop-i in
+    let s = (goal.at.loop-i-preserved c).Start in
     let read = row_read s.args.rows s.args.n s.args.lane s.args.xs.now (s.args.from + here.loop-i.i) (omega arith) in (
       omega arith,
-      rw (add-one, ← here.loop-i.invariant.1, ← read, ← c.before.before.place-at.ensures) c.max-most.ensures,
+      rw (add-one, ← here.loop-i.invariant.1, ← read, ← c.place-at.ensures) c.max-most.ensures,
     )
 
 pub returns : goal.returns
 returns c =
-    let e : c.before.loop-i.i ≡ c.before.before.before.args.k = omega arith in
-    rw (← e) c.before.loop-i.invariant.1
+    let e : c.loop-i.i ≡ c.args.k = omega arith in
+    rw (← e) c.loop-i.invariant.1
 
 pub offset_bounds-xs-at : goal.offset_bounds-xs-at
 offset_bounds-xs-at c = omega (arith, at_in c)
 
 pub bounds-xs-at : goal.bounds-xs-at
-bounds-xs-at c = at_in c.before
+bounds-xs-at c = at_in (goal.at.bounds-xs-at c).After-place-at

@@ -5,9 +5,7 @@ use native.Mathlib.Omega.{arith}
 use lib.ListN.{length, length-set}
 use Rattle.spans.proofs.FilledLaws.{sub_block_lem, stored_low, stored_in_lem, filled_none, filled_more}
 use Rattle.spans.proofs.blocks.prepare_lane.Goals as goal
-
-abbrev start : goal.At-loop-s → goal.Start
-start c = c.before.before.before.before.before.before.before.before.before.before
+use Rattle.spans.proofs.blocks.prepare_lane.Goals.{After-place-at, At-loop-s, In-loop-s, Start}
 
 pub loop-s-init : goal.loop-s-init
 loop-s-init c = (omega arith, refl, refl, refl, filled_none _ _ _ _ _ _ _ _ _ _)
@@ -15,48 +13,48 @@ loop-s-init c = (omega arith, refl, refl, refl, filled_none _ _ _ _ _ _ _ _ _ _)
 -- PORT: a record of ['powers_value', 'prepares']
 pub span_at-span-requires : goal.span_at-span-requires
 span_at-span-requires c =
-    let p = (start c.before).requires in
-    (p.0, sub_block_lem p.1.0 _ c.before.loop-s.s p.1.1 (omega arith))
+    let p = c.requires in
+    (p.0, sub_block_lem p.1.0 _ c.loop-s.s p.1.1 (omega arith))
 
 -- where a turn stores
-stored : (c : goal.In-loop-s)
-    → let a = (start c.before).args in
-    let now = c.before.loop-s in
+stored : (c : In-loop-s)
+    → let a = c.args in
+    let now = c.loop-s in
     let at = now.s * a.n + a.lane in
     (at < length now.inner) × (at < length now.stretch) × (at < length now.add)
 stored c =
-    let p = (start c.before).requires in
-    let i = c.before.loop-s.invariant in
-    rw (i.1, i.2, i.3) (stored_in_lem p.1.0 _ c.before.loop-s.s p.1.1 (omega arith))
+    let p = c.requires in
+    let i = c.loop-s.invariant in
+    rw (i.1, i.2, i.3) (stored_in_lem p.1.0 _ c.loop-s.s p.1.1 (omega arith))
 
-at_in : (c : goal.After-place-at)
-    → let now = c.before.before.before.loop-s in
+at_in : (c : After-place-at)
+    → let now = c.loop-s in
     (c.place-at.result < length now.inner) × (c.place-at.result < length now.stretch) × (c.place-at.result < length now.add)
-at_in c = rw c.place-at.ensures (stored c.before.before)
+at_in c = rw c.place-at.ensures (stored (UP.In-loop-s c))
 
-low : (c : goal.After-place-at) → c.place-at.result < 8192
+low : (c : After-place-at) → c.place-at.result < 8192
 low c =
-    let here = c.before.before.before in
-    let p = (start here).requires in
+    let here = (UP.At-loop-s c) in
+    let p = c.requires in
     rw c.place-at.ensures (stored_low p.1.0 _ here.loop-s.s p.1.1 (omega arith))
 
 pub loop-s-preserved : goal.loop-s-preserved
 loop-s-preserved c =
-    let here = c.before.before.before in
+    let here = (goal.at.loop-s-preserved c).At-loop-s in
     let i = here.loop-s.invariant in
-    let at = stored c.before.before in (
+    let at = stored (goal.at.loop-s-preserved c).In-loop-s in (
       omega arith,
       rw length-set i.1,
       rw length-set i.2,
       rw length-set i.3,
       rw c.place-at.ensures
-          (filled_more _ _ _ _ _ _ _ _ _ _ here.loop-s.s _ _ _ _ (start here).requires.takes.1 at.0 at.1 at.2 c.before.span_at-span.ensures i.4),
+          (filled_more _ _ _ _ _ _ _ _ _ _ here.loop-s.s _ _ _ _ c.requires.takes.1 at.0 at.1 at.2 c.span_at-span.ensures i.4),
     )
 
 pub returns : goal.returns
 returns c =
-    let e : c.before.loop-s.s ≡ c.before.before.before.before.before.before.before.before.before.before.before.args.rows = omega arith in
-    rw (← e) c.before.loop-s.invariant.4
+    let e : c.loop-s.s ≡ c.args.rows = omega arith in
+    rw (← e) c.loop-s.invariant.4
 
 pub offset_bounds-inner-at : goal.offset_bounds-inner-at
 offset_bounds-inner-at c = omega (arith, low c)

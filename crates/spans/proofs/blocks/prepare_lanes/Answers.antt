@@ -4,23 +4,21 @@ use Prim.Native.Nat.{◌-◌}
 use native.Mathlib.Omega.{arith}
 use Rattle.grid.proofs.EachLaws.{each_none, each_join}
 use Rattle.spans.proofs.blocks.prepare_lanes.Goals as goal
-
-abbrev start : goal.At-loop-lane → goal.Start
-start c = c.before.before.before.before.before.before.before.before.before.before
+use Rattle.spans.proofs.blocks.prepare_lanes.Goals.{At-loop-lane, Start}
 
 -- PORT: a record of ['powers_value', 'takes', 'lane_lt_n']
 pub prepare_lane-requires : goal.prepare_lane-requires
 prepare_lane-requires c =
-    let here = c.before.before.before.before in
-    let p = (start here).requires in
+    let here = (goal.at.prepare_lane-requires c).At-loop-lane in
+    let p = c.requires in
     let i = here.loop-lane.invariant in
     (p.0, (rw (i.1, i.2, i.3) p.1.0, omega arith))
 
 pub loop-lane-preserved : goal.loop-lane-preserved
 loop-lane-preserved c =
-    let here = c.before.before.before.before.before.before.before.before.before.before.before in
+    let here = (goal.at.loop-lane-preserved c).At-loop-lane in
     let i = here.loop-lane.invariant in
-    let did = c.before.before.before.before.before.before.prepare-lane in (
+    let did = c.prepare-lane in (
       omega arith,
       did.auto.1.1.1.1.1.1.1.1.1.1.1.1.1.1.1.1.0 ∙ i.1,
       did.auto.1.1.1.1.1.1.1.1.1.1.1.1.1.1.1.1.1.0 ∙ i.2,
@@ -30,8 +28,8 @@ loop-lane-preserved c =
 
 pub returns : goal.returns
 returns c =
-    let e : c.before.loop-lane.lane ≡ c.before.before.before.before.before.before.before.before.before.before.before.args.active = omega arith in
-    rw (← e) c.before.loop-lane.invariant.4
+    let e : c.loop-lane.lane ≡ c.args.active = omega arith in
+    rw (← e) c.loop-lane.invariant.4
 
 pub loop-lane-init : goal.loop-lane-init
 loop-lane-init c = (omega arith, refl, refl, refl, each_none (omega arith))

@@ -3,4 +3,4 @@
 use Rattle.spans.proofs.refusal.prepare_reads_short.Goals as goal
 
 pub returns : goal.returns
-returns c = rw (c.before.controls_short.ensures, c.short.ensures)
+returns c = rw (c.controls_short.ensures, c.short.ensures)

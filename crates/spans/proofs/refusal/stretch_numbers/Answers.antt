@@ -4,4 +4,4 @@ use Rattle.spans.proofs.refusal.stretch_numbers.Goals as goal
 
 pub returns : goal.returns
 returns c =
-    rw (c.first_line.ensures, c.before.asked_bad.ensures, c.before.before.lane_bad.ensures, c.before.before.before.factor_bad.ensures)
+    rw (c.first_line.ensures, c.asked_bad.ensures, c.lane_bad.ensures, c.factor_bad.ensures)

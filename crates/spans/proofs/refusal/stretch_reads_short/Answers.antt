@@ -3,4 +3,4 @@
 use Rattle.spans.proofs.refusal.stretch_reads_short.Goals as goal
 
 pub returns : goal.returns
-returns c = rw (c.short-2.ensures, c.before.short.ensures, c.before.before.span_length-cells.ensures)
+returns c = rw (c.short-2.ensures, c.short.ensures, c.span_length-cells.ensures)

@@ -4,10 +4,11 @@ use mathlib.Core.Logic.{⊎_elim}
 use Rattle.floats.specs.Steps.{given, taken, left}
 use Rattle.spans.specs.Slopes.{slot_span}
 use Rattle.spans.proofs.slopes.slot_span.Goals as goal
+use Rattle.spans.proofs.slopes.slot_span.Goals.{Joined-second}
 
-inner : (c : goal.Joined-second)
-    → let a = c.before.before.before.before.before.before.before.before.args in
-    c.if-second.inner ≡ (if a.second then c.before.before.steepest_at-steepest.result else a.span.inner)
+inner : (c : Joined-second)
+    → let a = c.args in
+    c.if-second.inner ≡ (if a.second then c.steepest_at-steepest.result else a.span.inner)
 inner c =
     ⊎_elim
     (λ way. way.1 ∙ sym (taken _ _ way.0.taken))
@@ -17,9 +18,9 @@ inner c =
 pub returns-then-in_phase : goal.returns-then-in_phase
 unfolding slot_span
 returns-then-in_phase c =
-    let j = c.before in
-    rw (← j.before.before.before.before.before.in_phase.ensures, taken _ _ j.before.before.before.before.if-in_phase.true, given j.before.before.before.bounds_of-b.ensures, given j.before.before.steepest_at-steepest.ensures, given j.before.add_of-add.ensures, inner j)
+    let j = (goal.at.returns-then-in_phase c).Joined-second in
+    rw (← c.in_phase.ensures, taken _ _ c.if-in_phase.true, given c.bounds_of-b.ensures, given c.steepest_at-steepest.ensures, given c.add_of-add.ensures, inner j)
 
 pub returns : goal.returns
 unfolding slot_span
-returns c = rw (← c.before.in_phase.ensures, left _ _ c.if-in_phase.false)
+returns c = rw (← c.in_phase.ensures, left _ _ c.if-in_phase.false)

@@ -7,35 +7,33 @@ use Rattle.floats.specs.Steps.{given}
 use Rattle.spans.specs.Slopes.{rows_in, span_at}
 use Rattle.spans.specs.Promises.{Sub}
 use Rattle.spans.proofs.slopes.span_at.Goals as goal
+use Rattle.spans.proofs.slopes.span_at.Goals.{Joined-left-lt-SUB_BLOCK, Start}
 
-abbrev start : goal.Joined-left-lt-SUB_BLOCK → goal.Start
-start c = c.before.before.before.before.before.before.before
-
-rows : (c : goal.Joined-left-lt-SUB_BLOCK) → c.if-left-lt-SUB_BLOCK.k ≡ rows_in (start c).args.frames (start c).args.s
+rows : (c : Joined-left-lt-SUB_BLOCK) → c.if-left-lt-SUB_BLOCK.k ≡ rows_in c.args.frames c.args.s
 rows c = ⊎_elim (λ way. let e = way.1 in let t = way.0.taken in omega arith) (λ way. let e = way.1 in let t = way.0.left in omega arith) c.if-left-lt-SUB_BLOCK.branch
 
-sub : (c : goal.Joined-left-lt-SUB_BLOCK) → Sub (start c).args.frames (start c).args.n (start c).args.lane ((start c).args.s * 32) c.if-left-lt-SUB_BLOCK.k
+sub : (c : Joined-left-lt-SUB_BLOCK) → Sub c.args.frames c.args.n c.args.lane (c.args.s * 32) c.if-left-lt-SUB_BLOCK.k
 sub c =
-    let p = (start c).requires.prepares in
+    let p = c.requires.prepares in
     let e = rows c in
     record { inside = p.inside; few = p.few; block = p.block; first = p.first; rows = omega arith }
 
 -- PORT: a record of ['fact_1', 'fact_2', 'fact_3', 'fact_4']
 pub slot_span-one-requires : goal.slot_span-one-requires
 slot_span-one-requires c =
-    let j = c.before.before.before in
-    let p = (start j).requires in
+    let j = (goal.at.slot_span-one-requires c).Joined-left-lt-SUB_BLOCK in
+    let p = c.requires in
     (p.0, (sub j, (p.1.controls.mod1, p.1.controls.source1)))
 
 -- PORT: a record of ['fact_1', 'fact_2', 'fact_3', 'fact_4']
 pub slot_span-requires : goal.slot_span-requires
 slot_span-requires c =
-    let j = c.before.before.before.before.before in
-    let p = (start j).requires in
+    let j = (goal.at.slot_span-requires c).Joined-left-lt-SUB_BLOCK in
+    let p = c.requires in
     (p.0, (sub j, (p.1.controls.mod0, p.1.controls.source0)))
 
 pub returns : goal.returns
 unfolding span_at
 returns c =
-    rw (← rows c.before.before.before.before.before.before, given c.before.before.before.before.before.words_per_hertz-per_hertz.ensures, given c.before.before.before.before.start_span-start.ensures, given c.before.before.slot_span-one.ensures)
+    rw (← rows (goal.at.returns c).Joined-left-lt-SUB_BLOCK, given c.words_per_hertz-per_hertz.ensures, given c.start_span-start.ensures, given c.slot_span-one.ensures)
     c.slot_span.ensures

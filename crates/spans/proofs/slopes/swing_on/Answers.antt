@@ -5,4 +5,4 @@ use Rattle.spans.proofs.slopes.swing_on.Goals as goal
 pub returns : goal.returns
 unfolding swung
 returns c =
-    rw (c.before.before.before.max.ensures, c.before.before.before.before.abs.ensures, c.max-2.ensures, c.before.abs-2.ensures)
+    rw (c.max.ensures, c.abs.ensures, c.max-2.ensures, c.abs-2.ensures)

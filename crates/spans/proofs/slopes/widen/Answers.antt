@@ -4,4 +4,4 @@ use Rattle.spans.proofs.slopes.widen.Goals as goal
 
 pub returns : goal.returns
 unfolding widened
-returns c = rw (c.before.min.ensures, c.max.ensures)
+returns c = rw (c.min.ensures, c.max.ensures)

@@ -4,8 +4,9 @@ use native.Mathlib.Nat.{mul-le-mul}
 use native.Mathlib.Omega.{arith}
 use Rattle.spans.specs.Slopes.{words_per_hertz}
 use Rattle.spans.proofs.slopes.words_per_hertz.Goals as goal
+use Rattle.spans.proofs.slopes.words_per_hertz.Goals.{Start}
 
-small : (c : goal.Start) → c.args.rate * c.args.factor ≤ 192000 * 8
+small : (c : Start) → c.args.rate * c.args.factor ≤ 192000 * 8
 small c = mul-le-mul c.requires.0 c.requires.1
 
 pub returns : goal.returns

@@ -12,13 +12,13 @@ pub loop-i-init : goal.loop-i-init
 loop-i-init c = (omega arith, scanned_none _ _ c.start-s.ensures)
 
 pub scan_byte-s-requires : goal.scan_byte-s-requires
-scan_byte-s-requires c = c.before.before.loop-i.invariant.1.room
+scan_byte-s-requires c = c.loop-i.invariant.1.room
 
 pub loop-i-preserved : goal.loop-i-preserved
-loop-i-preserved c = (omega arith, scanned_more _ _ _ _ c.before.before.loop-i-test.true c.before.before.before.loop-i.invariant.1 c.scan_byte-s.ensures)
+loop-i-preserved c = (omega arith, scanned_more _ _ _ _ c.loop-i-test.true c.loop-i.invariant.1 c.scan_byte-s.ensures)
 
 pub at_end-requires : goal.at_end-requires
-at_end-requires c = c.before.loop-i.invariant.1.room
+at_end-requires c = c.loop-i.invariant.1.room
 
 pub returns : goal.returns
-returns c = c.at_end_lem.ensures ∙ ap at_end (scanned_all _ _ _ c.before.loop-i-test.false c.before.before.loop-i.invariant.1) ∙ seven_found _
+returns c = c.at_end_lem.ensures ∙ ap at_end (scanned_all _ _ _ c.loop-i-test.false c.loop-i.invariant.1) ∙ seven_found _

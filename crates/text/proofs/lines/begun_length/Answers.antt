@@ -14,13 +14,13 @@ returns-then-line c = record {
 pub returns-then-line-lt-KEPT : goal.returns-then-line-lt-KEPT
 unfolding begun_length
 returns-then-line-lt-KEPT c = record {
-      value = rw (c.before.before.if-line.false, min-eq_left (le_of_lt c.if-line-lt-KEPT.true));
+      value = rw (c.if-line.false, min-eq_left (le_of_lt c.if-line-lt-KEPT.true));
       upper_bound = omega arith;
     }
 
 pub returns-else-line-lt-KEPT : goal.returns-else-line-lt-KEPT
 unfolding begun_length
 returns-else-line-lt-KEPT c = record {
-      value = rw (c.before.before.if-line.false, min-eq_right c.if-line-lt-KEPT.false);
+      value = rw (c.if-line.false, min-eq_right c.if-line-lt-KEPT.false);
       upper_bound = omega arith;
     }

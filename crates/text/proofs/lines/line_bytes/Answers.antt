@@ -8,4 +8,4 @@ pub slice_bounds-result-end : goal.slice_bounds-result-end
 slice_bounds-result-end c = sym (length-take-le _ _ (omega arith))
 
 pub returns-else-n-whole : goal.returns-else-n-whole
-returns-else-n-whole c = sym (take_all c.before.before.args.line.length c.before.before.args.buffer.now (omega arith))
+returns-else-n-whole c = sym (take_all c.args.line.length c.args.buffer.now (omega arith))

@@ -13,4 +13,4 @@ twice-ln2 = refl
 
 pub returns : goal.returns
 unfolding fm_exponential
-returns c = rw (given c.before.exp2-up.ensures, given c.exp2-down.ensures, twice-ln2)
+returns c = rw (given c.exp2-up.ensures, given c.exp2-down.ensures, twice-ln2)

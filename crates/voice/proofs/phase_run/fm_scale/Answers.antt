@@ -4,8 +4,9 @@ use native.Mathlib.Nat.{mul-le-mul}
 use native.Mathlib.Omega.{arith}
 use Rattle.voice.specs.PhaseRun.{fm_scale}
 use Rattle.voice.proofs.phase_run.fm_scale.Goals as goal
+use Rattle.voice.proofs.phase_run.fm_scale.Goals.{Start}
 
-small : (c : goal.Start) → c.args.rate * c.args.factor ≤ 192000 * 8
+small : (c : Start) → c.args.rate * c.args.factor ≤ 192000 * 8
 small c = mul-le-mul c.requires.0 c.requires.1
 
 pub overflow_mul-rate : goal.overflow_mul-rate

@@ -8,13 +8,13 @@ use Rattle.voice.proofs.phase_run.map_slot.Goals as goal
 -- PORT: a record of ['fact_1', 'fact_2', 'fact_3']
 pub apply_with-requires : goal.apply_with-requires
 apply_with-requires c =
-    let p = c.before.before.before.requires in
-    (phase_power _ _ _ (sym c.before.in_phase.ensures ∙ c.if-in_phase.true) p.0, p.1)
+    let p = c.requires in
+    (phase_power _ _ _ (sym c.in_phase.ensures ∙ c.if-in_phase.true) p.0, p.1)
 
 pub returns-then-in_phase : goal.returns-then-in_phase
 unfolding map_slot
-returns-then-in_phase c = rw (← c.before.before.in_phase.ensures, taken _ _ c.before.if-in_phase.true) c.apply_with.ensures
+returns-then-in_phase c = rw (← c.in_phase.ensures, taken _ _ c.if-in_phase.true) c.apply_with.ensures
 
 pub returns : goal.returns
 unfolding map_slot
-returns c = rw (← c.before.in_phase.ensures, left _ _ c.if-in_phase.false)
+returns c = rw (← c.in_phase.ensures, left _ _ c.if-in_phase.false)

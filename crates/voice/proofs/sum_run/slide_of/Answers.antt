@@ -5,8 +5,8 @@ use Rattle.voice.proofs.sum_run.slide_of.Goals as goal
 
 pub returns-then-is_modulated-control : goal.returns-then-is_modulated-control
 unfolding slide_of
-returns-then-is_modulated-control c = rw (← c.before.before.before.is_modulated.ensures, taken _ _ c.before.if-is_modulated-control.true, given c.offset_of-offset.ensures)
+returns-then-is_modulated-control c = rw (← c.is_modulated.ensures, taken _ _ c.if-is_modulated-control.true, given c.offset_of-offset.ensures)
 
 pub returns : goal.returns
 unfolding slide_of
-returns c = rw (← c.before.before.is_modulated.ensures, left _ _ c.if-is_modulated-control.false)
+returns c = rw (← c.is_modulated.ensures, left _ _ c.if-is_modulated-control.false)

@@ -7,19 +7,19 @@ use Rattle.voice.proofs.sum_run.sum_list.Goals as goal
 -- PORT: a record of ['power0_value_1', 'power0_value_2', 'in_bounds_1', 'in_bounds_2']
 pub mapped_sum-x-requires : goal.mapped_sum-x-requires
 mapped_sum-x-requires c =
-    let p = c.before.before.before.before.before.before.before.before.requires in
+    let p = c.requires in
     let on = p.1.1.1 in
     ((λ e. phase_power _ _ _ (sym on.0 ∙ e) on.1.1.0), ((λ e. phase_power _ _ _ (sym on.1.0 ∙ e) on.1.1.1), (p.1.0, p.1.1.0)))
 
 pub returns : goal.returns
 returns c =
-    let p = c.before.before.before.before.before.before.before.before.before.requires in
+    let p = c.requires in
     rw (
       c.mapped_sum-x.ensures,
-      c.before.add_words.ensures,
-      c.before.before.before.before.slide_of-slide0.ensures,
-      c.before.before.before.before.before.slide_of-slide1.ensures,
-      c.before.before.before.before.before.before.half_width-half.ensures,
+      c.add_words.ensures,
+      c.slide_of-slide0.ensures,
+      c.slide_of-slide1.ensures,
+      c.half_width-half.ensures,
       p.1.1.1.0,
       p.1.1.1.1.0,
     ) (list_summed _ _ _ _ _ _ _ _ _ _ _ _ _ _ _)

@@ -9,16 +9,16 @@ use Rattle.voice.proofs.sum_run.sum_of.Goals as goal
 -- PORT: a record of ['powers_value_1', 'powers_value_2', 'powers_value_3', 'on0_value_1', 'on0_value_2', 'power0_value_1', 'power0_value_2']
 pub sum_list-requires : goal.sum_list-requires
 sum_list-requires c =
-    let p = c.before.before.before.before.before.before.requires in
-    (p.0, (p.1.0, (p.1.1.0, (c.before.before.before.in_phase-on0.ensures, (c.before.before.in_phase-on1.ensures, p.1.1.1)))))
+    let p = c.requires in
+    (p.0, (p.1.0, (p.1.1.0, (c.in_phase-on0.ensures, (c.in_phase-on1.ensures, p.1.1.1)))))
 
 pub returns-then-on0-on1 : goal.returns-then-on0-on1
 unfolding reads_of
 returns-then-on0-on1 c =
-    rw (← c.before.before.before.before.in_phase-on0.ensures, ← c.before.before.before.in_phase-on1.ensures, taken _ _ c.before.before.if-on0-on1.true, given c.before.signed-increment.ensures) c.sum_list.ensures
+    rw (← c.in_phase-on0.ensures, ← c.in_phase-on1.ensures, taken _ _ c.if-on0-on1.true, given c.signed-increment.ensures) c.sum_list.ensures
 
 pub returns : goal.returns
 returns c =
     rw c.read_cycle.ensures
     (none_summed _ _ _ _ _ _ _ _ _ _ _ _ _ _ _
-    (ap₂ ◌||◌ (sym c.before.before.before.in_phase-on0.ensures) (sym c.before.before.in_phase-on1.ensures) ∙ c.before.if-on0-on1.false))
+    (ap₂ ◌||◌ (sym c.in_phase-on0.ensures) (sym c.in_phase-on1.ensures) ∙ c.if-on0-on1.false))

@@ -4,4 +4,4 @@ use Rattle.voice.proofs.wave_run.has_state.Goals as goal
 
 pub returns : goal.returns
 unfolding has_state
-returns c = rw (c.before.in_wave.ensures, c.is_level.ensures)
+returns c = rw (c.in_wave.ensures, c.is_level.ensures)

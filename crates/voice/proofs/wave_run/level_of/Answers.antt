@@ -3,17 +3,18 @@ use Rattle.floats.specs.Steps.{taken, left}
 use Rattle.wave.specs.Slot.{shape_of}
 use Rattle.voice.proofs.NoState.{no_state}
 use Rattle.voice.proofs.wave_run.level_of.Goals as goal
+use Rattle.voice.proofs.wave_run.level_of.Goals.{Start}
 
 -- PORT: parameters ['c', 'sk', 'increment', 'state']
 pub returns-then-in_wave-control : goal.returns-then-in_wave-control
 unfolding shape_of
 returns-then-in_wave-control c sk increment state =
-    let s = c.before.before.before.before in
-    rw (c.level.ensures, no_state sk s.args.slot s.args.control increment _ state s.requires, ← c.before.before.before.in_wave.ensures, taken _ _ c.before.if-in_wave-control.true)
+    let s = (goal.at.returns-then-in_wave-control c).Start in
+    rw (c.level.ensures, no_state sk s.args.slot s.args.control increment _ state s.requires, ← c.in_wave.ensures, taken _ _ c.if-in_wave-control.true)
 
 -- PORT: parameters ['c', 'sk', 'increment', 'state']
 pub returns : goal.returns
 unfolding shape_of
 returns c sk increment state =
-    let s = c.before.before.before in
-    rw (no_state sk s.args.slot s.args.control increment _ state s.requires, ← c.before.before.in_wave.ensures, left _ _ c.if-in_wave-control.false)
+    let s = (goal.at.returns c).Start in
+    rw (no_state sk s.args.slot s.args.control increment _ state s.requires, ← c.in_wave.ensures, left _ _ c.if-in_wave-control.false)

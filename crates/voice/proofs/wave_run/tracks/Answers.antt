@@ -4,4 +4,4 @@ use Rattle.voice.proofs.wave_run.tracks.Goals as goal
 
 pub returns : goal.returns
 unfolding tracks
-returns c = rw (c.before.before.before.in_wave.ensures, c.before.before.in_wave-2.ensures, c.before.is_own.ensures, c.is_own-2.ensures)
+returns c = rw (c.in_wave.ensures, c.in_wave-2.ensures, c.is_own.ensures, c.is_own-2.ensures)

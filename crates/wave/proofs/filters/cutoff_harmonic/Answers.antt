@@ -6,8 +6,8 @@ use Rattle.wave.proofs.filters.cutoff_harmonic.Goals as goal
 
 pub returns-in-17 : goal.returns-in-17
 unfolding cutoff_harmonic case_of
-returns-in-17 c = rw c.before.in_default.keys1 c.exp2.ensures
+returns-in-17 c = rw c.in_default.keys1 c.exp2.ensures
 
 pub returns-in_default : goal.returns-in_default
 unfolding cutoff_harmonic
-returns-in_default c = rw (← miss (Unit {0}) _ _ _ c.before.in_default.rest) c.exp2-in_default.ensures
+returns-in_default c = rw (← miss (Unit {0}) _ _ _ c.in_default.rest) c.exp2-in_default.ensures

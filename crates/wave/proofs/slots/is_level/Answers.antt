@@ -4,4 +4,4 @@ use Rattle.wave.proofs.slots.is_level.Goals as goal
 
 pub returns : goal.returns
 unfolding is_level
-returns c = rw (c.before.is_filter.ensures, c.is_modulated.ensures)
+returns c = rw (c.is_filter.ensures, c.is_modulated.ensures)

@@ -11,12 +11,12 @@ returns-in_default c = no_level _ _ _ c.in_default.keys2
 
 pub returns-in-Am : goal.returns-in-Am
 unfolding level_of
-returns-in-Am c = rw c.before.before.before.before.before.setting.given.1 (c.am.ensures ∙ arm modulated_cases (level_by _ _ _) _ (4 ∷ []) refl _ c.before.before.in_default-modulated.keys1 c.before.before.before.modulated-modulated.ensures)
+returns-in-Am c = rw c.setting.given.1 (c.am.ensures ∙ arm modulated_cases (level_by _ _ _) _ (4 ∷ []) refl _ c.in_default-modulated.keys1 c.modulated-modulated.ensures)
 
 pub returns-in-Ring : goal.returns-in-Ring
 unfolding level_of
-returns-in-Ring c = rw c.before.before.before.before.before.setting.given.1 (c.ring.ensures ∙ arm modulated_cases (level_by _ _ _) _ (5 ∷ []) refl _ c.before.before.in_default-modulated.keys2 c.before.before.before.modulated-modulated.ensures)
+returns-in-Ring c = rw c.setting.given.1 (c.ring.ensures ∙ arm modulated_cases (level_by _ _ _) _ (5 ∷ []) refl _ c.in_default-modulated.keys2 c.modulated-modulated.ensures)
 
 pub returns-in_default-modulated : goal.returns-in_default-modulated
 unfolding level_of
-returns-in_default-modulated c = rw c.before.before.before.setting.given.1 (arm modulated_cases (level_by _ _ _) _ (0 ∷ 1 ∷ 2 ∷ 3 ∷ 6 ∷ 7 ∷ []) refl _ c.in_default-modulated.keys3 c.before.modulated-modulated.ensures)
+returns-in_default-modulated c = rw c.setting.given.1 (arm modulated_cases (level_by _ _ _) _ (0 ∷ 1 ∷ 2 ∷ 3 ∷ 6 ∷ 7 ∷ []) refl _ c.in_default-modulated.keys3 c.modulated-modulated.ensures)

@@ -5,12 +5,12 @@ use Rattle.wave.proofs.slots.wave_power.Goals as goal
 
 pub returns-then-is_filter : goal.returns-then-is_filter
 unfolding wave_power
-returns-then-is_filter c = rw (← c.before.before.is_filter.ensures, taken _ _ c.before.if-is_filter.true) c.cutoff_harmonic.ensures
+returns-then-is_filter c = rw (← c.is_filter.ensures, taken _ _ c.if-is_filter.true) c.cutoff_harmonic.ensures
 
 pub returns-then-is_modulated : goal.returns-then-is_modulated
 unfolding wave_power
-returns-then-is_modulated c = rw (← c.before.before.before.is_filter.ensures, left _ _ c.before.before.if-is_filter.false, ← c.before.is_modulated.ensures, taken _ _ c.if-is_modulated.true)
+returns-then-is_modulated c = rw (← c.is_filter.ensures, left _ _ c.if-is_filter.false, ← c.is_modulated.ensures, taken _ _ c.if-is_modulated.true)
 
 pub returns : goal.returns
 unfolding wave_power
-returns c = rw (← c.before.before.before.before.is_filter.ensures, left _ _ c.before.before.before.if-is_filter.false, ← c.before.before.is_modulated.ensures, left _ _ c.before.if-is_modulated.false) c.gain.ensures
+returns c = rw (← c.is_filter.ensures, left _ _ c.if-is_filter.false, ← c.is_modulated.ensures, left _ _ c.if-is_modulated.false) c.gain.ensures

@@ -7,8 +7,8 @@ use Rattle.wave.proofs.smoothing.distort.Goals as goal
 
 pub returns-in-28 : goal.returns-in-28
 unfolding distort_of case_of
-returns-in-28 c = rw c.before.in_default.keys1 c.blend_rectified.ensures
+returns-in-28 c = rw c.in_default.keys1 c.blend_rectified.ensures
 
 pub returns-in_default : goal.returns-in_default
 unfolding distort_of curved
-returns-in_default c = rw (← miss (Unit {0}) _ _ _ c.before.before.in_default.rest, given c.before.drive.ensures) c.plain_curve.ensures
+returns-in_default c = rw (← miss (Unit {0}) _ _ _ c.in_default.rest, given c.drive.ensures) c.plain_curve.ensures

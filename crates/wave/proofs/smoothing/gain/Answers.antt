@@ -10,4 +10,4 @@ returns-in-28 c = rw c.in_default.keys1
 
 pub returns-in_default : goal.returns-in_default
 unfolding gain_of
-returns-in_default c = rw (← miss (Unit {0}) _ _ _ c.before.in_default.rest) c.drive.ensures
+returns-in_default c = rw (← miss (Unit {0}) _ _ _ c.in_default.rest) c.drive.ensures

@@ -6,4 +6,4 @@ use Rattle.wave.proofs.smoothing.smooth.Goals as goal
 pub returns : goal.returns
 unfolding smooth_of
 returns c =
-    rw (given c.before.before.before.before.before.before.integral-area.ensures, step, step, given c.before.before.before.before.before.apart_from-apart.ensures, given c.before.before.before.pick.ensures, step, given c.before.before.curve-midpoint.ensures, given c.before.pick-y.ensures, given c.blend-blended.ensures)
+    rw (given c.integral-area.ensures, step, step, given c.apart_from-apart.ensures, given c.pick.ensures, step, given c.curve-midpoint.ensures, given c.pick-y.ensures, given c.blend-blended.ensures)

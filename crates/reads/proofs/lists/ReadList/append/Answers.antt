@@ -6,15 +6,15 @@ use Rattle.reads.proofs.lists.ReadList.append.Goals as goal
 
 pub returns-then-kind-eq-KIND_ONE : goal.returns-then-kind-eq-KIND_ONE
 unfolding appended ◌>>=◌ if◌then◌else◌
-returns-then-kind-eq-KIND_ONE c = rw c.before.if-kind-eq-KIND_ONE.true c.push.ensures
+returns-then-kind-eq-KIND_ONE c = rw c.if-kind-eq-KIND_ONE.true c.push.ensures
 
 pub returns-then-kind-eq-KIND_BOTH : goal.returns-then-kind-eq-KIND_BOTH
 unfolding appended ◌>>=◌ if◌then◌else◌
-returns-then-kind-eq-KIND_BOTH c = rw (c.before.if-kind-eq-KIND_BOTH.true, c.push-then-kind-eq-KIND_BOTH.ensures, c.before.before.push-one.ensures, c.before.before.before.weighted.ensures)
+returns-then-kind-eq-KIND_BOTH c = rw (c.if-kind-eq-KIND_BOTH.true, c.push-then-kind-eq-KIND_BOTH.ensures, c.push-one.ensures, c.weighted.ensures)
 
 pub returns-else-kind-eq-KIND_BOTH : goal.returns-else-kind-eq-KIND_BOTH
 unfolding appended ◌>>=◌ if◌then◌else◌
-returns-else-kind-eq-KIND_BOTH c = rw (ne_eqb _ _ c.before.before.before.if-kind-eq-KIND_ONE.false, ne_eqb _ _ c.if-kind-eq-KIND_BOTH.false, c.before.push-one.ensures, c.before.before.weighted.ensures)
+returns-else-kind-eq-KIND_BOTH c = rw (ne_eqb _ _ c.if-kind-eq-KIND_ONE.false, ne_eqb _ _ c.if-kind-eq-KIND_BOTH.false, c.push-one.ensures, c.weighted.ensures)
 
 pub push-requires : goal.push-requires
 push-requires c = tt

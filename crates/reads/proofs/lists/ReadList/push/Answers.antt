@@ -25,5 +25,5 @@ pub returns-in_default : goal.returns-in_default
 unfolding push_of
 returns-in_default c =
     let m = c.in_default.rest in
-    let h : 4 ≤ c.before.args.self.count = omega (arith, m.1, m.0.1, m.0.0.1, m.0.0.0.1) in
+    let h : 4 ≤ c.args.self.count = omega (arith, m.1, m.0.1, m.0.0.1, m.0.0.0.1) in
     rw (le-ltb _ _ h)

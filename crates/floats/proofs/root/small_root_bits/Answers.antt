@@ -1,4 +1,4 @@
--- `floats::small_root_bits` meets its contract. With z leading zeros of 32, b has 32 - z digits, and moved up by z - 8 places it has 24. Assumes nothing.
+-- `floats::small_root_bits` meets its contract. With z leading zeros of 32, b has 32 - z digits, and moved up by z - 8 places it has 24.
 use mathlib.Core.Path.{◌≡◌, sym, ap, ◌∙◌, subst}
 use Prim.Native.Nat.{ℕ, suc, ◌+◌, ◌-◌, ◌*◌, ◌/◌, ◌%◌, ◌^◌, ◌≤◌, ◌<◌}
 use native.Mathlib.Nat.{le_trans, le_of_eq, lt_of_lt_of_le, lt_of_not-le, not-le_of_lt, mul-le-mul_right, mul-lt-mul_of_pos_right, mul_assoc, mul_right_comm, mod-eq_of_lt}
@@ -9,8 +9,8 @@ use lib.Ieee.{binary32, of_bits}
 use Rattle.floats.specs.Promises.{RootPattern}
 use Rattle.floats.specs.Sqrt.{root_units, BySquares}
 use Rattle.floats.proofs.RootPatterns.{read_root, lowered}
-use Rattle.floats.proofs.root.small_root_bits.Statement.{statement}
-use Rattle.floats.proofs.root.small_root_bits.Tie as tie
+use Rattle.floats.proofs.root.small_root_bits.Goals as goal
+use Rattle.floats.proofs.root.small_root_bits.Goals.{Start}
 
 abbrev up : ℕ → ℕ
 up b = count_leading_zeros 32 b - 8
@@ -63,25 +63,22 @@ module _ (b : ℕ) (P : 0 < b) (S : b < 2 ^ 23) where
       fewer : (r : ℕ) → 64 * 8388608 ≤ r → r / 8388608 - 1 ≡ (r - 100663296) / 8388608 - 1 + 12
       fewer r l = omega arith
 
-sub-up : tie.Need-overflow-sub-up
-sub-up c = (zeros c.args.b c.requires.0 c.requires.1).0
+pub overflow_sub-up : goal.overflow_sub-up
+overflow_sub-up c = (zeros c.args.b c.requires.0 c.requires.1).0
 
-shl-root-bits : tie.Need-overflow-shl-root-bits
-shl-root-bits c = omega (arith, zeros c.args.b c.requires.0 c.requires.1)
+pub overflow_shl-b : goal.overflow_shl-b
+overflow_shl-b c = omega (arith, zeros c.args.b c.requires.0 c.requires.1)
 
-sub-root-bits : tie.Need-overflow-sub-root-bits
-sub-root-bits c = omega (arith, zeros c.args.b c.requires.0 c.requires.1)
+pub overflow_sub-up-2 : goal.overflow_sub-up-2
+overflow_sub-up-2 c = omega (arith, zeros c.args.b c.requires.0 c.requires.1)
 
-root-bits-requires : tie.Need-root-bits-requires
-root-bits-requires c κs =
+pub root_bits-requires : goal.root_bits-requires
+root_bits-requires c =
     let b = c.args.b in
     rw (whole b c.requires.0 c.requires.1) (omega (arith, low b c.requires.0 c.requires.1, high b c.requires.0 c.requires.1))
 
-sub-result : tie.Need-overflow-sub-result
-sub-result c = omega (arith, c.root-bits.ensures.least)
+pub overflow_sub-result : goal.overflow_sub-result
+overflow_sub-result c = omega (arith, c.root_bits.ensures.least)
 
-returns : tie.Need-returns
-returns c = let s = c.before in root s.args.b s.requires.0 s.requires.1 c.root-bits.result c.root-bits.ensures
-
-pub small-root-bits-spec : {M : Type 1} → statement M
-small-root-bits-spec = tie.close (tie.spec sub-up shl-root-bits sub-root-bits root-bits-requires sub-result returns)
+pub returns : goal.returns
+returns c = let s = (goal.at.returns c).Start in root s.args.b s.requires.0 s.requires.1 c.root_bits.result c.root_bits.ensures

@@ -1,4 +1,4 @@
--- `floats::steps` meets its contract. Assumes nothing.
+-- `floats::steps` meets its contract.
 use mathlib.Core.Path.{◌≡◌, sym, ap, ◌∙◌, subst}
 use mathlib.Core.Bool.{Bool, true, false, cond}
 use Prim.Native.Nat.{ℕ, ◌+◌, ◌-◌, ◌*◌, ◌/◌, ◌%◌, ◌^◌, ◌≤◌, ◌<◌, min}
@@ -6,13 +6,12 @@ use native.Mathlib.Nat.{le_trans, le_of_eq, mod-eq_of_lt, div-lt_iff_lt-mul}
 use native.Mathlib.Omega.{arith}
 use lib.Dec.{leb}
 use lib.Pow.{pow_pos, pow_mono}
-use borrow.Author.Rules.{rules}
 use Rattle.floats.specs.Pattern.{significand_of, exponent_of}
 use Rattle.floats.specs.Promises.{steps_of}
 use Rattle.floats.proofs.Shifts.{exponent_le, plus, minus, room}
 use Rattle.floats.proofs.Patterns.{significand_lt}
-use Rattle.floats.proofs.power.steps.Statement.{statement}
-use Rattle.floats.proofs.power.steps.Tie as tie
+use Rattle.floats.proofs.power.steps.Goals as goal
+use Rattle.floats.proofs.power.steps.Goals.{After-drop_of-s, After-moved}
 
 -- what the body's numbers are, from m and s as the calls give them
 record Facts (b m s : ℕ) : Type 0 where
@@ -49,28 +48,23 @@ base b H =
     under true n D p h = (div-lt_iff_lt-mul p).1 (omega arith)
     under false n D p h = (div-lt_iff_lt-mul p).1 (omega arith)
 
-here : (c : tie.After-drop-of) → Facts c.before.before.before.args.b c.before.before.significand.result c.drop_of.result
+here : (c : After-drop_of-s) → Facts c.args.b c.significand-m.result c.drop_of-s.result
 here c =
-    let b = c.before.before.before.args.b in
-    subst (λ (m : ℕ). Facts b m c.drop_of.result) (sym c.before.before.significand.ensures)
-    (subst (λ (s : ℕ). Facts b (significand_of b) s) (sym (c.drop_of.ensures ∙ ap (λ (j : ℕ). min 25 (133 - j)) c.before.exponent.ensures)) (base b c.before.before.before.requires))
+    let b = c.args.b in
+    subst (λ (m : ℕ). Facts b m c.drop_of-s.result) (sym c.significand-m.ensures)
+    (subst (λ (s : ℕ). Facts b (significand_of b) s) (sym (c.drop_of-s.ensures ∙ ap (λ (j : ℕ). min 25 (133 - j)) c.exponent-j.ensures)) (base b c.requires))
 
-drop-of-requires : tie.Need-drop-of-requires
-drop-of-requires c κs = omega (arith, exponent_le c.before.before.args.b c.before.before.requires)
+pub drop_of-s-requires : goal.drop_of-s-requires
+drop_of-s-requires c = omega (arith, exponent_le c.args.b c.requires)
 
-moved-requires : tie.Need-moved-requires
-moved-requires c κs = ((here c).ranges, (here c).room)
+pub moved-requires : goal.moved-requires
+moved-requires c = ((here c).ranges, (here c).room)
 
-total : (c : tie.After-moved) → c.moved.result / 2 ^ c.before.drop_of.result ≡ steps_of c.before.before.before.before.args.b
-total c = ap (λ (n : ℕ). n / 2 ^ c.before.drop_of.result) c.moved.ensures ∙ (here c.before).is
+total : (c : After-moved) → c.moved.result / 2 ^ c.drop_of-s.result ≡ steps_of c.args.b
+total c = ap (λ (n : ℕ). n / 2 ^ c.drop_of-s.result) c.moved.ensures ∙ (here (UP.After-drop_of-s c)).is
 
-cast-result-2 : tie.Need-overflow-cast-result-2
-cast-result-2 c = record { fits = subst (λ (n : ℕ). n < 2 ^ 32) (sym (total c)) (here c.before).small }
+pub overflow_cast-result-2 : goal.overflow_cast-result-2
+overflow_cast-result-2 c = record { fits = subst (λ (n : ℕ). n < 2 ^ 32) (sym (total c)) (here (goal.at.overflow_cast-result-2 c).After-drop_of-s).small }
 
-returns : tie.Need-returns
+pub returns : goal.returns
 returns c = total c
-
-pub steps-spec : {M : Type 1} → statement M
-steps-spec =
-    tie.close
-    (tie.spec (λ c κs. search rules) (λ c κs. search rules) drop-of-requires (λ c. search rules) (λ c. search rules) (λ c. search rules) moved-requires (λ c. search rules) (λ c. search rules) cast-result-2 returns)
