@@ -13,7 +13,7 @@ returns-then-modulation-eq0 c = rw (lent_none _ _ _ _ c.if-modulation-eq0.true) 
 
 at_in : (c : After-place-at) → c.place-at.result < length c.args.modulation.now
 at_in c =
-    let s = (UP.Start c) in
+    let s = c in
     rw c.place-at.ensures
     (row_held _ _ _ _ _ s.requires.fact_1.inside s.requires.fact_1.row (s.requires.fact_2.holds c.if-modulation-eq0.false))
 

@@ -14,13 +14,13 @@ next-held c = rw c.next_row-next.ensures (next_in _ _ c.requires.fact_1.row)
 
 at_in : (c : After-place-at) → c.place-at.result < length c.args.source.now
 at_in c =
-    let s = (UP.Start c) in
+    let s = c in
     rw c.place-at.ensures (row_held _ _ _ _ _ s.requires.fact_1.inside s.requires.fact_1.row s.requires.fact_2)
 
 after-in : (c : After-place-after) → c.place-after.result < length c.args.source.now
 after-in c =
-    let s = (UP.Start c) in
-    rw c.place-after.ensures (row_held _ _ _ _ _ s.requires.fact_1.inside (next-held (UP.After-next_row-next c)) s.requires.fact_2)
+    let s = c in
+    rw c.place-after.ensures (row_held _ _ _ _ _ s.requires.fact_1.inside (next-held c) s.requires.fact_2)
 
 pub place-after-requires : goal.place-after-requires
 place-after-requires c = let h = next-held (goal.at.place-after-requires c).After-next_row-next in search rules

@@ -14,11 +14,12 @@ unfolding heard_at
 returns-then-is_own c =
     rw (lent_some _ _ _ _ c.if-source-eq0.false, ← c.is_own.ensures, taken _ _ c.if-is_own.true)
 
--- PORT: a record of ['fact_1', 'fact_2']
 pub source_at-requires : goal.source_at-requires
 source_at-requires c =
-    let s = (goal.at.source_at-requires c).Start in
-    (s.requires.fact_1, s.requires.fact_2.holds c.if-source-eq0.false)
+    let s = (goal.at.source_at-requires c).Start in record {
+      fact_1 = s.requires.fact_1;
+      fact_2 = s.requires.fact_2.holds c.if-source-eq0.false;
+    }
 
 pub returns : goal.returns
 unfolding heard_at

@@ -11,7 +11,7 @@ use Rattle.controls.proofs.source_at.Goals.{After-place-at, Start}
 
 at_in : (c : After-place-at) → c.place-at.result < length c.args.source.now
 at_in c =
-    let s = (UP.Start c) in
+    let s = c in
     rw c.place-at.ensures (row_held _ _ _ _ _ s.requires.fact_1.inside s.requires.fact_1.row s.requires.fact_2)
 
 pub returns-then-factor-eq1 : goal.returns-then-factor-eq1

@@ -22,7 +22,7 @@ abbrev writes : Start → Buffers
 writes c = let a = c.args in buffers a.output.now a.work.now a.pairs.now a.fm.now a.last.now a.dec.now
 
 abbrev here : At-loop-lane → Buffers
-here c = let l = c.loop-lane in buffers l.output l.work l.pairs l.fm l.last l.dec
+here c = let l = c.loop-lane in buffers l.output-1 l.work-1 l.pairs-1 l.fm-1 l.last-1 l.dec-1
 
 pub loop-lane-init : goal.loop-lane-init
 loop-lane-init c = ((omega arith, c.requires.fact_1), shared_none _ _)
@@ -31,13 +31,17 @@ loop-lane-init c = ((omega arith, c.requires.fact_1), shared_none _ _)
 low : (c : In-loop-lane) → c.loop-lane.lane < c.args.to
 low c = c.loop-lane-test.true
 
--- PORT: a record of ['powers_value_1', 'powers_value_2', 'powers_value_3', 'readable', 'writable']
 pub run_lane-requires : goal.run_lane-requires
 run_lane-requires c =
     let t = (goal.at.run_lane-requires c).In-loop-lane in
     let l = (goal.at.run_lane-requires c).At-loop-lane in
-    let p = c.requires.fact_2 in
-    (c.power_table-powers.ensures.value, (omega (arith, low t, p.actives), (p.limits, (p.readable, writable_kept p.writable l.loop-lane.invariant.1.sizes))))
+    let p = c.requires.fact_2 in record {
+      powers_value_1 = c.power_table-powers.ensures.value;
+      powers_value_2 = omega (arith, low t, p.actives);
+      powers_value_3 = p.limits;
+      readable = p.readable;
+      writable = writable_kept p.writable l.loop-lane.invariant.1.sizes;
+    }
 
 pub overflow_step-lane-in-loop-lane : goal.overflow_step-lane-in-loop-lane
 overflow_step-lane-in-loop-lane c =

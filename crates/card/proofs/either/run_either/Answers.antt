@@ -50,14 +50,14 @@ abbrev number : Start → ℕ
 number c = either_refusal c.args.one c.args.lane (numbers c) (lengths c) (write_lengths (writes c))
 
 -- the settings have the numbers that came one by one
-by-table : (c : After-refused_either-number) → c.refused_either-number.result ≡ number (UP.Start c)
+by-table : (c : After-refused_either-number) → c.refused_either-number.result ≡ number c
 unfolding settings_of designs_of
 by-table c =
-    let w = (UP.After-write_lengths c) in
+    let w = c in
     by_parts (either_refusal c.args.one c.args.lane) refl c.read_lengths.ensures w.write_lengths.ensures c.refused_either-number.ensures
 
-none : (c : Else-number-ne0) → number (UP.Start c) ≡ 0
-none c = sym (by-table (UP.After-refused_either-number c)) ∙ c.if-number-ne0.false
+none : (c : Else-number-ne0) → number c ≡ 0
+none c = sym (by-table c) ∙ c.if-number-ne0.false
 
 pub returns-then-number-ne0 : goal.returns-then-number-ne0
 returns-then-number-ne0 c =

@@ -15,7 +15,7 @@ loop-at-init c = (omega arith, rw c.empty_slots-slots.ensures (onward_none _))
 
 pub returns-then-number-ne0 : goal.returns-then-number-ne0
 returns-then-number-ne0 c =
-    let number = c.number_at in
+    let number = c.number_at-number in
     let turn = (goal.at.returns-then-number-ne0 c).In-loop-at in
     let start = (goal.at.returns-then-number-ne0 c).Else-file-gt-LIMIT in
     c.turned_away-then-number-ne0.ensures

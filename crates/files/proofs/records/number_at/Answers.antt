@@ -16,14 +16,14 @@ pub returns-then-length-ne-LENGTH : goal.returns-then-length-ne-LENGTH
 returns-then-length-ne-LENGTH c =
     let e = (goal.at.returns-then-length-ne-LENGTH c).Else-not-known_kind in
     let known = c.known_kind.ensures ∙ ap known_kind c.two-kind.ensures.value in
-    let size = c.two in
+    let size = c.two-length in
     wrong_length_lem _ _ (omega arith) (omega arith) (omega arith) (sym known ∙ not-false _ e.if-not-known_kind.false) (λ e. c.if-length-ne-LENGTH.true (size.ensures.0 ∙ e))
 
 pub returns-then-fields_bad : goal.returns-then-fields_bad
 returns-then-fields_bad c =
     let e = (goal.at.returns-then-fields_bad c).Else-not-known_kind in
     let known = c.known_kind.ensures ∙ ap known_kind c.two-kind.ensures.value in
-    let size = c.two in
+    let size = c.two-length in
     bad _ _ (omega arith) (omega arith) (omega arith) (sym known ∙ not-false _ e.if-not-known_kind.false)
     (sym size.ensures.0 ∙ c.if-length-ne-LENGTH.false)
     (sym (c.fields_bad.ensures ∙ ap bad_fields c.fields_at-entry.ensures) ∙ c.if-fields_bad.true)
@@ -32,7 +32,7 @@ pub returns-else-fields_bad : goal.returns-else-fields_bad
 returns-else-fields_bad c =
     let e = (goal.at.returns-else-fields_bad c).Else-not-known_kind in
     let known = c.known_kind.ensures ∙ ap known_kind c.two-kind.ensures.value in
-    let size = c.two in
+    let size = c.two-length in
     good _ _ (omega arith) (omega arith) (omega arith) (sym known ∙ not-false _ e.if-not-known_kind.false)
     (sym size.ensures.0 ∙ c.if-length-ne-LENGTH.false)
     (sym (c.fields_bad.ensures ∙ ap bad_fields c.fields_at-entry.ensures) ∙ c.if-fields_bad.false)

@@ -21,7 +21,7 @@ tested c =
 
 good : (c : Else-fields_bad)
     → (bad_fields (entry_of 0 c.args.patch.slot0) || bad_fields (entry_of 1 c.args.patch.slot1)) ≡ false
-good c = sym (tested (UP.After-fields_bad-2 c)) ∙ c.if-fields_bad.false
+good c = sym (tested c) ∙ c.if-fields_bad.false
 
 each : (c : Else-fields_bad)
     → (bad_fields (entry_of 0 c.args.patch.slot0) ≡ false) × (bad_fields (entry_of 1 c.args.patch.slot1) ≡ false)
@@ -32,8 +32,8 @@ returns c =
     let p2 = (goal.at.returns c).After-put_record-2 in
     let p1 = (goal.at.returns c).After-put_record in
     let e = (goal.at.returns c).Else-fields_bad in
-    let two = c.entry-of2 in
-    let one = c.entry_of in
+    let two = c.entry_of-second in
+    let one = c.entry_of-first in
     wrote _ _ (good e) (omega arith) (p2.put_record-2.ensures ∙ rw (p1.put_record.ensures, one.ensures, two.ensures))
 
 -- both records' slot and mode are bytes

@@ -44,9 +44,9 @@ large x t h = subst (λ (y : Float). le y x ≡ t) is-128 h
 low : (x : Float) (t : Bool) → lt x (neg (of_bits binary32 1123811328)) ≡ t → lt x minus126 ≡ t
 low x t h = subst (λ (y : Float). lt x y ≡ t) is-minus-126 h
 
-mid : (c : Else-x-3) → Middle (bits (UP.Start c))
+mid : (c : Else-x-3) → Middle (bits c)
 mid c =
-    let s = (UP.Start c) in
+    let s = c in
     let r = sym (reads s) in
     middle (bits s)
     (subst (λ (y : Float). is_nan y ≡ false) r (no_nan s.args.x c.if-x.false))

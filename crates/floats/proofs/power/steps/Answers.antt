@@ -61,7 +61,7 @@ pub moved-requires : goal.moved-requires
 moved-requires c = ((here c).ranges, (here c).room)
 
 total : (c : After-moved) → c.moved.result / 2 ^ c.drop_of-s.result ≡ steps_of c.args.b
-total c = ap (λ (n : ℕ). n / 2 ^ c.drop_of-s.result) c.moved.ensures ∙ (here (UP.After-drop_of-s c)).is
+total c = ap (λ (n : ℕ). n / 2 ^ c.drop_of-s.result) c.moved.ensures ∙ (here c).is
 
 pub overflow_cast-result-2 : goal.overflow_cast-result-2
 overflow_cast-result-2 c = record { fits = subst (λ (n : ℕ). n < 2 ^ 32) (sym (total c)) (here (goal.at.overflow_cast-result-2 c).After-drop_of-s).small }

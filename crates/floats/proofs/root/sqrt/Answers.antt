@@ -42,7 +42,7 @@ float_from_bits-result c = rw (bits_no_nan c.root_bits.result c.root_bits.ensure
 pub returns-then-b-ge8388608 : goal.returns-then-b-ge8388608
 returns-then-b-ge8388608 c =
     let s = (goal.at.returns-then-b-ge8388608 c).Start in
-    let r = c.root-bits in
+    let r = c.root_bits in
     both _ _
     (read_root ((8388608 + bits_of s.args.x % 8388608) * 2 ^ (bits_of s.args.x / 8388608 - 1)) r.result (mul-pos (omega arith) (pow_pos (bits_of s.args.x / 8388608 - 1))) (omega (arith, r.ensures.least)) r.ensures.most r.ensures.squares
     ∙ sym (of_normal (bits_of s.args.x) c.if-b-ge8388608.true c.if-b-lt2139095040.true)

@@ -30,7 +30,7 @@ loop-from_last-preserved c =
       did.auto.1.1.1.1.1.1.0 ∙ here.loop-from_last.invariant.2,
       λ w rest.
           here.loop-from_last.invariant.3 w
-          (stages_then floats (design_of s.args.t1) _ _ _ _ (omega arith)
+          (stages_then floats (design_of s.args.designs) _ _ _ _ (omega arith)
           (rw (shifted s.requires.taken left (omega arith)) at did.ensures) rest),
     )
 

@@ -6,17 +6,18 @@ use Rattle.grid.proofs.EachLaws.{each_none, each_join}
 use Rattle.halfband.proofs.cascade.decimate_lanes.Goals as goal
 use Rattle.halfband.proofs.cascade.decimate_lanes.Goals.{At-loop-lane}
 
--- PORT: a record of ['taken', 'lane_lt_n']
 pub decimate_lane-requires : goal.decimate_lane-requires
 decimate_lane-requires c =
     let here = (goal.at.decimate_lane-requires c).At-loop-lane in
-    let taken = c.requires.taken in
-    (rw (here.loop-lane.invariant.1, here.loop-lane.invariant.2) taken, omega arith)
+    let taken = c.requires.taken in record {
+      taken = rw (here.loop-lane.invariant.1, here.loop-lane.invariant.2) taken;
+      lane_lt_n = omega arith;
+    }
 
 pub loop-lane-preserved : goal.loop-lane-preserved
 loop-lane-preserved c =
     let here = (goal.at.loop-lane-preserved c).At-loop-lane in
-    let did = c.decimate-lane in (
+    let did = c.decimate_lane in (
       omega arith,
       did.auto.1.1.1.1.1.0 ∙ here.loop-lane.invariant.1,
       did.auto.1.1.1.1.1.1.0 ∙ here.loop-lane.invariant.2,

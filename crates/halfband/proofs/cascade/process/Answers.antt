@@ -12,7 +12,7 @@ decimate_lanes-requires c =
 
 pub returns : goal.returns
 returns c =
-    let did = c.decimate-lanes in
+    let did = c.decimate_lanes in
     record {
       number = sym c.if-number-ne0.false ∙ c.refused-number.ensures;
       frames = refl;

@@ -5,15 +5,15 @@ use Rattle.halfband.proofs.cascade.stages_of.Goals as goal
 
 pub returns-in-2 : goal.returns-in-2
 unfolding stages_of
-returns-in-2 c = rw c.in_default.keys1
+returns-in-2 c = rw c.in-2.is
 
 pub returns-in-4 : goal.returns-in-4
 unfolding stages_of
-returns-in-4 c = rw c.in_default.keys2
+returns-in-4 c = rw c.in-4.is
 
 pub returns-in-8 : goal.returns-in-8
 unfolding stages_of
-returns-in-8 c = rw c.in_default.keys3
+returns-in-8 c = rw c.in-8.is
 
 pub returns-in_default : goal.returns-in_default
 unfolding stages_of

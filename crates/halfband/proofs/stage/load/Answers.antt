@@ -12,7 +12,7 @@ use Rattle.halfband.proofs.stage.load.Goals.{After-place-at, At-loop-i}
 
 at_in : (c : After-place-at) → c.place-at.result < length c.args.state.now
 at_in c =
-    let s = (UP.Start c) in
+    let s = c in
     rw c.place-at.ensures (cell_in _ _ c.loop-i.i _ _ s.requires.1 (omega arith))
 
 pub loop-i-preserved : goal.loop-i-preserved

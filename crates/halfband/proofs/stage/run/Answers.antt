@@ -11,17 +11,17 @@ use Rattle.halfband.proofs.stage.run.Goals.{After-frame-sample, After-place-at, 
 row_in : (c : In-loop-k) (r : ℕ) → r < 2 * c.args.frames
     → r * c.args.n + c.args.lane < length c.loop-k.buffer
 row_in c r h =
-    let s = (UP.Start c) in
+    let s = c in
     rw c.loop-k.invariant.1.size (row_held _ s.args.frames s.args.n s.args.lane r s.requires.3 s.requires.2 h)
 
 early-in : (c : After-place-e) → c.place-e.result < length c.loop-k.buffer
-early-in c = rw c.place-e.ensures (row_in (UP.In-loop-k c) (2 * c.loop-k.k) (omega arith))
+early-in c = rw c.place-e.ensures (row_in c (2 * c.loop-k.k) (omega arith))
 
 late-in : (c : After-place-l) → c.place-l.result < length c.loop-k.buffer
-late-in c = rw c.place-l.ensures (row_in (UP.In-loop-k c) (2 * c.loop-k.k + 1) (omega arith))
+late-in c = rw c.place-l.ensures (row_in c (2 * c.loop-k.k + 1) (omega arith))
 
 out-in : (c : After-place-at) → c.place-at.result < length c.before.loop-k.buffer
-out-in c = rw c.place-at.ensures (row_in (UP.In-loop-k c) c.before.loop-k.k (omega arith))
+out-in c = rw c.place-at.ensures (row_in c c.before.loop-k.k (omega arith))
 
 pub loop-k-preserved : goal.loop-k-preserved
 loop-k-preserved c =

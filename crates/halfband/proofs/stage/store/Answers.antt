@@ -9,7 +9,7 @@ use Rattle.halfband.proofs.stage.store.Goals.{After-place-at, At-loop-i}
 
 at_in : (c : After-place-at) → c.place-at.result < length c.loop-i.state
 at_in c =
-    let s = (UP.Start c) in
+    let s = c in
     rw (c.place-at.ensures, c.loop-i.invariant.2.size) (cell_in _ _ c.loop-i.i _ _ s.requires.1 (omega arith))
 
 pub loop-i-preserved : goal.loop-i-preserved

@@ -31,7 +31,7 @@ idle : (c : Else-lane-active)
     either_refusal a.one a.lane a.call a.reads a.writes ≡ cond (eqb n 1) 1 (cond (eqb n 2) 2 3)
 idle c =
     let a = c.args in
-    as-lane-here (UP.Else-not-one c)
+    as-lane-here c
     ∙ idle_number a.call a.lane a.reads a.writes (omega (arith, c.if-lane-active.false)) ∙ rw c.refused-number.ensures
 
 pub returns-then-number-eq1 : goal.returns-then-number-eq1

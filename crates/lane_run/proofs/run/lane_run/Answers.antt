@@ -30,14 +30,14 @@ number c =
     let a = c.args in
     lane_refusal a.lane (call_numbers a.b a.r a.active) (read_lengths 36 13 (reads c)) (write_lengths (writes c))
 
-by-table : (c : After-refused_either-number) → c.refused_either-number.result ≡ number (UP.Start c)
+by-table : (c : After-refused_either-number) → c.refused_either-number.result ≡ number c
 by-table c =
-    let w = (UP.After-write_lengths c) in
-    let r = (UP.After-read_lengths c) in
+    let w = c in
+    let r = c in
     by_parts (lane_refusal c.args.lane) c.call_numbers.ensures r.read_lengths.ensures w.write_lengths.ensures c.refused_either-number.ensures
 
-none : (c : Else-number-ne0) → number (UP.Start c) ≡ 0
-none c = sym (by-table (UP.After-refused_either-number c)) ∙ c.if-number-ne0.false
+none : (c : Else-number-ne0) → number c ≡ 0
+none c = sym (by-table c) ∙ c.if-number-ne0.false
 
 pub returns-then-number-ne0 : goal.returns-then-number-ne0
 returns-then-number-ne0 c =
@@ -46,9 +46,9 @@ returns-then-number-ne0 c =
 
 -- ---- the run
 
-taken : (c : Else-number-ne0) → let o = (UP.Start c) in Taken o.args.b o.args.r (o.args.lane + 1) (reads o) (writes o)
+taken : (c : Else-number-ne0) → let o = c in Taken o.args.b o.args.r (o.args.lane + 1) (reads o) (writes o)
 taken c =
-    let o = (UP.Start c) in
+    let o = c in
     lane_taken o.args.b o.args.r o.args.active o.args.lane 36 13 (reads o) (writes o) (none c)
 
 -- the lane is below 64

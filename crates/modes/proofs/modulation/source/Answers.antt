@@ -17,31 +17,31 @@ reads n = map (n +◌) (33 ∷ 39 ∷ 45 ∷ 51 ∷ 58 ∷ 64 ∷ [])
 
 pub returns-in-33 : goal.returns-in-33
 unfolding source_says
-returns-in-33 c = keys source_of (given (some osc1)) (reads 0) (unfold source_of in refl) c.in_default-1.keys1
+returns-in-33 c = keys source_of (given (some osc1)) (reads 0) (unfold source_of in refl) c.in-33.is
 
 pub returns-in-34 : goal.returns-in-34
 unfolding source_says
-returns-in-34 c = keys source_of (given (some osc2)) (reads 1) (unfold source_of in refl) c.in_default-1.keys2
+returns-in-34 c = keys source_of (given (some osc2)) (reads 1) (unfold source_of in refl) c.in-34.is
 
 pub returns-in-35 : goal.returns-in-35
 unfolding source_says
-returns-in-35 c = keys source_of (given (some noise)) (reads 2) (unfold source_of in refl) c.in_default-1.keys3
+returns-in-35 c = keys source_of (given (some noise)) (reads 2) (unfold source_of in refl) c.in-35.is
 
 pub returns-in-36 : goal.returns-in-36
 unfolding source_says
-returns-in-36 c = keys source_of (given (some sub)) (reads 3) (unfold source_of in refl) c.in_default-1.keys4
+returns-in-36 c = keys source_of (given (some sub)) (reads 3) (unfold source_of in refl) c.in-36.is
 
 pub returns-in-37 : goal.returns-in-37
 unfolding source_says
-returns-in-37 c = keys source_of (given (some filter1)) (reads 4) (unfold source_of in refl) c.in_default-1.keys5
+returns-in-37 c = keys source_of (given (some filter1)) (reads 4) (unfold source_of in refl) c.in-37.is
 
 pub returns-in-38 : goal.returns-in-38
 unfolding source_says
-returns-in-38 c = keys source_of (given (some filter2)) (reads 5) (unfold source_of in refl) c.in_default-1.keys6
+returns-in-38 c = keys source_of (given (some filter2)) (reads 5) (unfold source_of in refl) c.in-38.is
 
 pub returns-in-57 : goal.returns-in-57
 unfolding source_says
-returns-in-57 c = keys source_of (given (some own)) (57 ∷ []) (unfold source_of in refl) c.in_default-1.keys7
+returns-in-57 c = keys source_of (given (some own)) (57 ∷ []) (unfold source_of in refl) c.in-57.is
 
 pub returns-in-0-to-32 : goal.returns-in-0-to-32
 unfolding source_says

@@ -24,7 +24,7 @@ returns-in-1-to-15-2 c = range oversampled_of (given true) 19 70 (unfold oversam
 
 pub returns-in-0 : goal.returns-in-0
 unfolding flag_says
-returns-in-0 c = keys oversampled_of (given false) (0 ∷ []) (unfold oversampled_of in refl) c.in_default-1.keys1
+returns-in-0 c = keys oversampled_of (given false) (0 ∷ []) (unfold oversampled_of in refl) c.in-0.is
 
 pub returns-in-0-2 : goal.returns-in-0-2
 unfolding flag_says

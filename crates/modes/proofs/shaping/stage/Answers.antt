@@ -11,7 +11,7 @@ use Rattle.modes.proofs.shaping.stage.Goals as goal
 
 pub returns-in-0 : goal.returns-in-0
 unfolding stage_says
-returns-in-0 c = keys stage_of (given off) (0 ∷ []) (unfold stage_of in refl) c.in_default-1.keys1
+returns-in-0 c = keys stage_of (given off) (0 ∷ []) (unfold stage_of in refl) c.in-0.is
 
 pub returns-in_default : goal.returns-in_default
 unfolding stage_says

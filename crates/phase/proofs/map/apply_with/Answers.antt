@@ -25,23 +25,23 @@ made s n =
     let a = s.args in
     mapped a.numbers.sin a.numbers.atan a.curve.now a.slot a.amount a.half a.list.word a.list.gain (emptied a.list) n
 
-after_first : (c : After-append-out) → c.append-out.result ≡ made (UP.Start c) 1
+after_first : (c : After-append-out) → c.append-out.result ≡ made c 1
 unfolding mapped
 after_first c =
     let none : After-empty-out = search in
     one_more _ c.append-out.ensures c.map-first.ensures (no_reads c.args.list _ none.empty-out.ensures)
 
-after-second : (c : After-append-out-2) → c.append-out-2.result ≡ made (UP.Start c) 2
+after-second : (c : After-append-out-2) → c.append-out-2.result ≡ made c 2
 unfolding mapped
-after-second c = one_more _ c.append-out-2.ensures c.map-second.ensures (after_first (UP.After-append-out c))
+after-second c = one_more _ c.append-out-2.ensures c.map-second.ensures (after_first c)
 
-after-third : (c : After-append-out-3) → c.append-out-3.result ≡ made (UP.Start c) 3
+after-third : (c : After-append-out-3) → c.append-out-3.result ≡ made c 3
 unfolding mapped
-after-third c = one_more _ c.append-out-3.ensures c.map-third.ensures (after-second (UP.After-append-out-2 c))
+after-third c = one_more _ c.append-out-3.ensures c.map-third.ensures (after-second c)
 
-after-fourth : (c : After-append) → c.append.result ≡ made (UP.Start c) 4
+after-fourth : (c : After-append) → c.append.result ≡ made c 4
 unfolding mapped
-after-fourth c = one_more _ c.append.ensures c.map-fourth.ensures (after-third (UP.After-append-out-3 c))
+after-fourth c = one_more _ c.append.ensures c.map-fourth.ensures (after-third c)
 
 -- ---- one way of the code for each count
 pub returns-then-n-eq0 : goal.returns-then-n-eq0
@@ -56,17 +56,21 @@ pub returns-then-n-eq2 : goal.returns-then-n-eq2
 unfolding apply_of emptied
 returns-then-n-eq2 c = rw c.if-n-eq2.true (after-second (goal.at.returns-then-n-eq2 c).After-append-out-2)
 
--- PORT: a record of ['fact_1', 'fact_2']
 pub map-third-requires : goal.map-third-requires
-map-third-requires c = let p = c.requires in (p.0, p.1.0)
+map-third-requires c = let p = c.requires in record {
+      fact_1 = p.0;
+      fact_2 = p.1.0;
+    }
 
 pub returns-then-n-eq3 : goal.returns-then-n-eq3
 unfolding apply_of emptied
 returns-then-n-eq3 c = rw c.if-n-eq3.true (after-third (goal.at.returns-then-n-eq3 c).After-append-out-3)
 
--- PORT: a record of ['fact_1', 'fact_2']
 pub map-fourth-requires : goal.map-fourth-requires
-map-fourth-requires c = let p = c.requires in (p.0, p.1.0)
+map-fourth-requires c = let p = c.requires in record {
+      fact_1 = p.0;
+      fact_2 = p.1.0;
+    }
 
 pub returns : goal.returns
 unfolding apply_of emptied

@@ -6,11 +6,11 @@ use Rattle.phase.proofs.power.map_power.Goals as goal
 
 pub returns-in-1 : goal.returns-in-1
 unfolding map_power case_of
-returns-in-1 c = rw c.in_default.keys1 c.ratio_of.ensures
+returns-in-1 c = rw c.in-1.is c.ratio_of.ensures
 
 pub returns-in-15 : goal.returns-in-15
 unfolding map_power case_of
-returns-in-15 c = rw c.in_default.keys2 c.step_count.ensures
+returns-in-15 c = rw c.in-15.is c.step_count.ensures
 
 pub returns-in_default : goal.returns-in_default
 unfolding map_power

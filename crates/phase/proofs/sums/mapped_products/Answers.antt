@@ -26,7 +26,7 @@ returns-then-not-on0 c = c.products.ensures ∙ every_off _ _ _ _ _ _ _ _ _ _ _ 
 
 pub returns-then-kind-eq-KIND_BOTH : goal.returns-then-kind-eq-KIND_BOTH
 returns-then-kind-eq-KIND_BOTH c =
-    c.sum_two_lem.ensures
+    c.sum_two.ensures
     ∙ every_two _ _ _ _ _ _ _ _ _ _ _ _ _ _ _ _ c.if-not-on0.false c.if-kind-eq-KIND_BOTH.true
     c.map_if-reads.ensures c.map-first.ensures c.map-second.ensures
 

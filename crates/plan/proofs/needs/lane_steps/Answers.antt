@@ -19,33 +19,37 @@ two c = let a = c.args in let p = c.requires in two_most a.count0 a.count1 a.cou
 three : (c : Start) → (c.args.count0 + 2 * c.args.count1 + 4 * c.args.count2) * c.args.frames ≤ 344064
 three c = let a = c.args in let p = c.requires in three_most a.count0 a.count1 a.count2 a.frames p.0 p.1 p.2 p.3
 
--- PORT: a record of ['value', 'upper_bound']
 pub returns-in-2 : goal.returns-in-2
 unfolding lane_steps stages_of
 returns-in-2 c =
-    let a = c.args in
-    (rw c.in_default.keys1 (sym (steps_one a.count0 a.count1 a.count2 a.frames)), one (goal.at.returns-in-2 c).Start)
+    let a = c.args in record {
+      value = rw c.in-2.is (sym (steps_one a.count0 a.count1 a.count2 a.frames));
+      upper_bound = one (goal.at.returns-in-2 c).Start;
+    }
 
--- PORT: a record of ['value', 'upper_bound']
 pub returns-in-4 : goal.returns-in-4
 unfolding lane_steps stages_of
 returns-in-4 c =
-    let a = c.args in
-    (rw c.in_default.keys2 (sym (steps_two a.count0 a.count1 a.count2 a.frames)), two (goal.at.returns-in-4 c).Start)
+    let a = c.args in record {
+      value = rw c.in-4.is (sym (steps_two a.count0 a.count1 a.count2 a.frames));
+      upper_bound = two (goal.at.returns-in-4 c).Start;
+    }
 
--- PORT: a record of ['value', 'upper_bound']
 pub returns-in-8 : goal.returns-in-8
 unfolding lane_steps stages_of
 returns-in-8 c =
-    let a = c.args in
-    (rw c.in_default.keys3 (sym (steps_three a.count0 a.count1 a.count2 a.frames)), three (goal.at.returns-in-8 c).Start)
+    let a = c.args in record {
+      value = rw c.in-8.is (sym (steps_three a.count0 a.count1 a.count2 a.frames));
+      upper_bound = three (goal.at.returns-in-8 c).Start;
+    }
 
--- PORT: a record of ['value', 'upper_bound']
 pub returns-in_default : goal.returns-in_default
 unfolding lane_steps stages_of
 returns-in_default c =
-    let a = c.args in let m = c.in_default.rest in
-    (rw (ne_eqb _ 2 m.0.0.1, ne_eqb _ 4 m.0.1, ne_eqb _ 8 m.1) (sym (steps_none a.count0 a.count1 a.count2 a.frames)), omega arith)
+    let a = c.args in let m = c.in_default.rest in record {
+      value = rw (ne_eqb _ 2 m.0.0.1, ne_eqb _ 4 m.0.1, ne_eqb _ 8 m.1) (sym (steps_none a.count0 a.count1 a.count2 a.frames));
+      upper_bound = omega arith;
+    }
 
 pub overflow_mul-result : goal.overflow_mul-result
 overflow_mul-result c = omega (arith, one (goal.at.overflow_mul-result c).Start)

@@ -32,9 +32,10 @@ returns-then-wide-n-2 c = no_room _ _ _ (omega arith)
 pub copy-requires : goal.copy-requires
 copy-requires c = (omega arith, omega arith)
 
--- PORT: a record of ['row_after', 'value']
 pub returns : goal.returns
 returns c =
     let s : Start = search in
-    let r = room s.args.row.now s.args.text.now s.args.at (omega arith) in
-    (c.copy.ensures ∙ r.0, r.1)
+    let r = room s.args.row.now s.args.text.now s.args.at (omega arith) in record {
+      row_after = c.copy.ensures ∙ r.0;
+      value = r.1;
+    }

@@ -4,11 +4,15 @@ use Rattle.preview.proofs.PictureLaws.{picture_drawn}
 use Rattle.preview.proofs.drawing.draw.Goals as goal
 use Rattle.preview.proofs.drawing.draw.Goals.{After-inner_of-inner, After-read, After-read-arg-1, After-shape_slot, After-shape_slot-arg-1, Start}
 
--- PORT: a record of ['set_1', 'set_2', 'in_bounds_1', 'in_bounds_2', 'in_bounds_3']
 pub read-requires : goal.read-requires
 read-requires c =
-    let p = c.requires in
-    (is_set _ _ _ _ c.map_setting-map0.ensures, (is_set _ _ _ _ c.map_setting-map1.ensures, (p.1.0, (p.1.1.0, p.1.1.1))))
+    let p = c.requires in record {
+      set_1 = is_set _ _ _ _ c.map_setting-map0.ensures;
+      set_2 = is_set _ _ _ _ c.map_setting-map1.ensures;
+      in_bounds_1 = p.1.0;
+      in_bounds_2 = p.1.1.0;
+      in_bounds_3 = p.1.1.1;
+    }
 
 pub shape_slot-requires : goal.shape_slot-requires
 shape_slot-requires c = (begun (set c.before)).requires.fact_1

@@ -17,9 +17,13 @@ word_at-word-requires c =
     let p = c.requires in
     (omega (arith, p.1.1.1.1, c.loop-i.invariant.1), c.loop-i-test.true)
 
--- PORT: a record of ['set_1', 'set_2', 'in_bounds_1', 'in_bounds_2']
 pub point-requires : goal.point-requires
-point-requires c = let p = c.requires in (p.0, (p.1.0, (p.1.1.0, p.1.1.1.0)))
+point-requires c = let p = c.requires in record {
+      set_1 = p.0;
+      set_2 = p.1.0;
+      in_bounds_1 = p.1.1.0;
+      in_bounds_2 = p.1.1.1.0;
+    }
 
 pub loop-i-preserved : goal.loop-i-preserved
 loop-i-preserved c =

@@ -2,11 +2,14 @@
 use Rattle.preview.proofs.PointLaws.{set_power, summed}
 use Rattle.preview.proofs.points.point.Goals as goal
 
--- PORT: a record of ['power0_value_1', 'power0_value_2', 'in_bounds_1', 'in_bounds_2']
 pub mapped_products-requires : goal.mapped_products-requires
 mapped_products-requires c =
-    let p = c.requires in
-    (set_power _ p.0, (set_power _ p.1.0, (p.1.1.0, p.1.1.1)))
+    let p = c.requires in record {
+      power0_value_1 = set_power _ p.0;
+      power0_value_2 = set_power _ p.1.0;
+      in_bounds_1 = p.1.1.0;
+      in_bounds_2 = p.1.1.1;
+    }
 
 pub returns : goal.returns
 returns c =

@@ -11,7 +11,7 @@ pub returns-in-28 : goal.returns-in-28
 unfolding rectified_of distorted_of
 returns-in-28 c =
     let d = (goal.at.returns-in-28 c).After-rectify_picture in
-    d.rectify_picture.ensures ∙ same_table _ _ _ (λ i l. distort_rectified _ _ _ _ c.in_default.keys1)
+    d.rectify_picture.ensures ∙ same_table _ _ _ (λ i l. distort_rectified _ _ _ _ c.in-28.is)
 
 pub returns-in_default : goal.returns-in_default
 unfolding curves_of distorted_of

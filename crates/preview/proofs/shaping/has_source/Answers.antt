@@ -8,12 +8,12 @@ use Rattle.preview.proofs.shaping.has_source.Goals as goal
 
 pub returns-in-Nothing : goal.returns-in-Nothing
 unfolding has_source
-returns-in-Nothing c = arm source_cases says_source false (7 ∷ []) refl _ c.in_default.keys1 c.source-source.ensures
+returns-in-Nothing c = arm source_cases says_source false (7 ∷ []) refl _ c.in-Nothing-1.is c.source-source.ensures
 
 pub returns-in-Refused : goal.returns-in-Refused
 unfolding has_source
-returns-in-Refused c = arm source_cases says_source false (8 ∷ []) refl _ c.in_default.keys2 c.source-source.ensures
+returns-in-Refused c = arm source_cases says_source false (8 ∷ []) refl _ c.in-Refused-1.is c.source-source.ensures
 
 pub returns-in_default : goal.returns-in_default
 unfolding has_source
-returns-in_default c = arm source_cases says_source true (0 ∷ 1 ∷ 2 ∷ 3 ∷ 4 ∷ 5 ∷ 6 ∷ []) refl _ c.in_default.keys3 c.source-source.ensures
+returns-in_default c = arm source_cases says_source true (0 ∷ 1 ∷ 2 ∷ 3 ∷ 4 ∷ 5 ∷ 6 ∷ []) refl _ c.in_default.is c.source-source.ensures

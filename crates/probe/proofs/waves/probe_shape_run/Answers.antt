@@ -2,17 +2,20 @@
 use mathlib.Core.Path.{refl}
 use Prim.Native.Nat.{◌-◌}
 use Rattle.floats.specs.Exp2.{entries}
-use Rattle.probe.specs.Waves.{shape_length, end_of}
+use Rattle.probe.specs.Waves.{state_after, shape_length, end_of}
 use Rattle.probe.proofs.Run.{ran_none, ran_more}
 use Rattle.probe.proofs.Shaped.{state_none, state_more, shaped}
 use borrow.Author.Tests.{lt-ltb, le-ltb}
 use native.Mathlib.Omega.{arith}
 use Rattle.probe.proofs.waves.probe_shape_run.Goals as goal
 
--- PORT: a record of ['value', 'ran', 'state_after']
 pub returns-then-state-lt2 : goal.returns-then-state-lt2
 unfolding shape_length end_of
-returns-then-state-lt2 c = let h = lt-ltb _ _ c.if-state-lt2.true in (rw h, (ran_none _ _, rw h))
+returns-then-state-lt2 c = let h = lt-ltb _ _ c.if-state-lt2.true in record {
+      value = rw h;
+      ran = ran_none _ _;
+      state_after = rw h;
+    }
 
 pub loop-i-init : goal.loop-i-init
 unfolding entries
@@ -27,10 +30,12 @@ loop-i-preserved c =
     let e = c.slot-shaped.ensures in
     (omega arith, l.invariant.1, l.invariant.2, ran_more _ _ _ _ _ (omega arith) l.invariant.3 (shaped _ _ _ _ _ _ l.invariant.4 e), state_more _ _ _ _ _ _ l.invariant.4 e)
 
--- PORT: a record of ['value', 'ran', 'state_after']
 pub returns : goal.returns
 unfolding shape_length end_of
 returns c =
     let h = le-ltb _ _ c.if-state-lt2.false in
-    let l = c.loop-i in
-    (rw h (omega arith), (l.invariant.3, rw (h, l.invariant.4)))
+    let l = c.loop-i in record {
+      value = rw h (omega arith);
+      ran = l.invariant.3;
+      state_after = rw (h, l.invariant.4);
+    }

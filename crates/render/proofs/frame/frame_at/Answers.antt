@@ -27,9 +27,14 @@ overflow_add-host c = let p = c.requires.fact_2.1 in omega (arith, p.inside, p.f
 pub place-at-requires : goal.place-at-requires
 place-at-requires c = let p = c.requires.fact_2.1 in (omega arith, p.spot.inside, p.spot.few)
 
--- PORT: a record of ['powers_value_1', 'powers_value_2', 'powers_value_3', 'power0_value_1', 'power0_value_2']
 pub frame_of-requires : goal.frame_of-requires
-frame_of-requires c = let p = c.requires in (p.0, (p.1.1.entries, (p.1.1.samples, (p.1.0.power0, p.1.0.power1))))
+frame_of-requires c = let p = c.requires in record {
+      powers_value_1 = p.0;
+      powers_value_2 = p.1.1.entries;
+      powers_value_3 = p.1.1.samples;
+      power0_value_1 = p.1.0.power0;
+      power0_value_2 = p.1.0.power1;
+    }
 
 pub returns : goal.returns
 unfolding frame_at

@@ -8,12 +8,14 @@ use Rattle.render.specs.Frames.{frame_of}
 use Rattle.render.proofs.frame.frame_of.Goals as goal
 use Rattle.render.proofs.frame.frame_of.Goals.{After-has_state-2}
 
--- PORT: a record of ['fact_1', 'fact_2', 'fact_3']
 pub level_frame-requires : goal.level_frame-requires
 level_frame-requires c =
     let hosted = (goal.at.level_frame-requires c).After-has_state-2 in
-    let none = or_false _ _ (or_false (c.in_phase.result || c.in_phase-2.result) _ c.if-mapped-stated.false).1 in
-    (c.requires.powers_value_2.1.0, (sym c.has_state.ensures ∙ none.0, sym hosted.has_state-2.ensures ∙ none.1))
+    let none = or_false _ _ (or_false (c.in_phase.result || c.in_phase-2.result) _ c.if-mapped-stated.false).1 in record {
+      fact_1 = c.requires.powers_value_2.1.0;
+      fact_2 = sym c.has_state.ensures ∙ none.0;
+      fact_3 = sym hosted.has_state-2.ensures ∙ none.1;
+    }
 
 pub returns : goal.returns
 unfolding frame_of

@@ -17,7 +17,7 @@ lends c =
 -- the host frames so far, of this block
 so_far : (c : At-loop-k)
     → let a = c.args in
-    Frames a.b (inputs_of a.b.shaper (lends (UP.Start c)) a.lane) a.lane (a.r.first * a.b.shaper.factor) 0 (c.loop-k.k * a.b.shaper.factor) a.v c.loop-k.state a.work.now c.loop-k.work
+    Frames a.b (inputs_of a.b.shaper (lends c) a.lane) a.lane (a.r.first * a.b.shaper.factor) 0 (c.loop-k.k * a.b.shaper.factor) a.v c.loop-k.state a.work.now c.loop-k.work
 so_far c = let a = c.args in c.loop-k.invariant.1 a.b.rate a.b.designs c.fm_scale-scale.ensures
 
 pub fm_scale-scale-requires : goal.fm_scale-scale-requires
@@ -32,12 +32,16 @@ overflow_add-first c = let p = c.requires.powers_value_2.1.0 in omega (arith, p.
 pub overflow_mul-k : goal.overflow_mul-k
 overflow_mul-k c = let p = c.requires.powers_value_2.1.0 in omega (arith, host_rows p c.loop-k.k c.loop-k-test.true)
 
--- PORT: a record of ['powers_value_1', 'powers_value_2', 'powers_value_3', 'stills', 'readable']
 pub render_host-state-requires : goal.render_host-state-requires
 render_host-state-requires c =
     let l = (goal.at.render_host-state-requires c).At-loop-k in
-    let p = c.requires in
-    (p.0, (p.1.1.1.0, (host_room p.1.1.0 l.loop-k.k c.loop-k-test.true p.1.0 (rw (so_far l).size p.1.1.1.1.1.1), (p.1.1.1.1.0, p.1.1.1.1.1.0))))
+    let p = c.requires in record {
+      powers_value_1 = p.0;
+      powers_value_2 = p.1.1.1.0;
+      powers_value_3 = host_room p.1.1.0 l.loop-k.k c.loop-k-test.true p.1.0 (rw (so_far l).size p.1.1.1.1.1.1);
+      stills = p.1.1.1.1.0;
+      readable = p.1.1.1.1.1.0;
+    }
 
 pub loop-k-preserved : goal.loop-k-preserved
 loop-k-preserved c =

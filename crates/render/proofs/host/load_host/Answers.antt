@@ -14,17 +14,23 @@ near c = rw c.place-at.ensures (slope_near c.requires.powers_value_2.1)
 at_in : (c : After-place-at) → c.place-at.result < length c.args.inner.now
 at_in c = omega (arith, c.place-at.ensures, slope_in c.requires.powers_value_2.1)
 
--- PORT: a record of ['powers_value_1', 'powers_value_2', 'spot_1', 'spot_2']
 pub drive_at-drive0-requires : goal.drive_at-drive0-requires
 drive_at-drive0-requires c =
-    let p = c.requires in
-    (p.0, (p.1.0.first, (p.1.1.spot, p.1.1.held0)))
+    let p = c.requires in record {
+      powers_value_1 = p.0;
+      powers_value_2 = p.1.0.first;
+      spot_1 = p.1.1.spot;
+      spot_2 = p.1.1.held0;
+    }
 
--- PORT: a record of ['powers_value_1', 'powers_value_2', 'spot_1', 'spot_2']
 pub drive_at-drive1-requires : goal.drive_at-drive1-requires
 drive_at-drive1-requires c =
-    let p = c.requires in
-    (p.0, (p.1.0.second, (p.1.1.spot, p.1.1.held1)))
+    let p = c.requires in record {
+      powers_value_1 = p.0;
+      powers_value_2 = p.1.0.second;
+      spot_1 = p.1.1.spot;
+      spot_2 = p.1.1.held1;
+    }
 
 pub place-at-requires : goal.place-at-requires
 place-at-requires c =

@@ -18,22 +18,26 @@ lends c =
 sub-less : (c : In-loop-sub) → c.loop-sub.sub < c.args.s.factor
 sub-less c = omega (arith, c.loop-sub.invariant.1, c.loop-sub-test.true)
 
--- PORT: a record of ['powers_value_1', 'powers_value_2', 'hosted']
 pub load_host-h-requires : goal.load_host-h-requires
 load_host-h-requires c =
-    let s : Start = search in
-    (s.requires.powers_value_1, (s.requires.powers_value_2.1.1.0, hosted {l = lends s} s.requires.powers_value_2.1.0.spot s.requires.powers_value_2.1.1.1))
+    let s : Start = search in record {
+      powers_value_1 = s.requires.powers_value_1;
+      powers_value_2 = s.requires.powers_value_2.1.1.0;
+      hosted = hosted {l = lends s} s.requires.powers_value_2.1.0.spot s.requires.powers_value_2.1.1.1;
+    }
 
 pub loop-sub-init : goal.loop-sub-init
 loop-sub-init c =
     let s : Start = search in
     (omega arith, refl, refl, ran_none _ _ (lends s) _ _ _ _ _)
 
--- PORT: a record of ['fact_1', 'fact_2', 'fact_3']
 pub frame_at-out-requires : goal.frame_at-out-requires
 frame_at-out-requires c =
-    let s = (goal.at.frame_at-out-requires c).Start in
-    (s.requires.powers_value_1, (powered _ (lends s) _ _ _ c.load_host-h.ensures, framed s.requires.powers_value_2.1.0 c.loop-sub.sub (sub-less c) {l = lends s} s.requires.powers_value_2.1.1.1))
+    let s = (goal.at.frame_at-out-requires c).Start in record {
+      fact_1 = s.requires.powers_value_1;
+      fact_2 = powered _ (lends s) _ _ _ c.load_host-h.ensures;
+      fact_3 = framed s.requires.powers_value_2.1.0 c.loop-sub.sub (sub-less c) {l = lends s} s.requires.powers_value_2.1.1.1;
+    }
 
 pub overflow_add-row : goal.overflow_add-row
 overflow_add-row c = let p = c.requires.powers_value_2.1.0 in omega arith
@@ -43,13 +47,13 @@ place-to-requires c = let p = c.requires.powers_value_2.1.0 in (omega arith, p.s
 
 near : (c : After-place-to) → c.place-to.result < 2097152
 near c =
-    let l = (UP.At-loop-sub c) in
-    omega (arith, c.place-to.ensures, room_near c.requires.powers_value_2.1.0 l.loop-sub.sub (sub-less (UP.In-loop-sub c)))
+    let l = c in
+    omega (arith, c.place-to.ensures, room_near c.requires.powers_value_2.1.0 l.loop-sub.sub (sub-less c))
 
 to_in : (c : After-place-to) → c.place-to.result < length c.loop-sub.work
 to_in c =
-    let l = (UP.At-loop-sub c) in
-    omega (arith, c.place-to.ensures, l.loop-sub.invariant.2, room_in c.requires.powers_value_2.1.0 l.loop-sub.sub (sub-less (UP.In-loop-sub c)))
+    let l = c in
+    omega (arith, c.place-to.ensures, l.loop-sub.invariant.2, room_in c.requires.powers_value_2.1.0 l.loop-sub.sub (sub-less c))
 
 pub loop-sub-preserved : goal.loop-sub-preserved
 loop-sub-preserved c =

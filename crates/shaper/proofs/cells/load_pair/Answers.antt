@@ -8,11 +8,11 @@ use Rattle.shaper.proofs.cells.load_pair.Goals as goal
 use Rattle.shaper.proofs.cells.load_pair.Goals.{After-place-after, After-place-at}
 
 at_in : (c : After-place-at) → c.place-at.result < length c.args.pairs.now
-at_in c = let s = (UP.Start c) in rw c.place-at.ensures (cell_in s.requires.fact_2 s.args.row (omega (arith, s.requires.fact_1)))
+at_in c = let s = c in rw c.place-at.ensures (cell_in s.requires.fact_2 s.args.row (omega (arith, s.requires.fact_1)))
 
 after-in : (c : After-place-after) → c.place-after.result < length c.args.pairs.now
 after-in c =
-    let s = (UP.Start c) in
+    let s = c in
     rw c.place-after.ensures (cell_in s.requires.fact_2 (s.args.row + 1) (omega (arith, s.requires.fact_1)))
 
 pub returns : goal.returns

@@ -15,12 +15,15 @@ use Rattle.shaper.proofs.lane.reads_at.Goals.{After-control_at-control0, After-c
 unfoldable start : After-numbers-1 → Start
 start c = search
 
--- PORT: a record of ['fact_1', 'fact_2', 'fact_3', 'fact_4']
 pub control_at-control1-requires : goal.control_at-control1-requires
 unfolding start
 control_at-control1-requires c =
-    let d = (start (search)).requires.fact_2.driven in
-    (d.spot, (d.controls.base1, (d.controls.mod1, d.controls.source1)))
+    let d = (start (search)).requires.fact_2.driven in record {
+      fact_1 = d.spot;
+      fact_2 = d.controls.base1;
+      fact_3 = d.controls.mod1;
+      fact_4 = d.controls.source1;
+    }
 
 pub place-at-requires : goal.place-at-requires
 unfolding start
@@ -49,16 +52,18 @@ bounds-inner-at c =
     let s = start (search) in
     subst (λ (i : ℕ). i < length s.args.inner.now) (sym at.place-at.ensures) (span_held s.requires.fact_2)
 
--- PORT: a record of ['powers_value_1', 'powers_value_2', 'power0_value_1', 'power0_value_2']
 pub reads_of-requires : goal.reads_of-requires
 unfolding start
 reads_of-requires c =
     let power1 : After-power_of-power1 = search in
     let power0 : After-power_of-power0 = search in
-    let s = start (search) in
-    (s.requires.fact_1, (table_held s.args.curve.now s.requires.fact_2.entries, (power0.power_of-power0.ensures, power1.power_of-power1.ensures)))
+    let s = start (search) in record {
+      powers_value_1 = s.requires.fact_1;
+      powers_value_2 = table_held s.args.curve.now s.requires.fact_2.entries;
+      power0_value_1 = power0.power_of-power0.ensures;
+      power0_value_2 = power1.power_of-power1.ensures;
+    }
 
--- PORT: a record of ['value', 'count_bound']
 pub returns : goal.returns
 unfolding start reads_at control0_at control1_at
 returns c =
@@ -66,13 +71,13 @@ returns c =
     let control1 : After-control_at-control1 = search in
     let control0 : After-control_at-control0 = search in
     let scaled : After-fm_scale-scale = search in
-    let s = start (search) in (
-      rw (
+    let s = start (search) in record {
+      value = rw (
         given scaled.fm_scale-scale.ensures,
         given control0.control_at-control0.ensures,
         given control1.control_at-control1.ensures,
         row_read _ _ _ _ _ (span_in _ _ s.requires.fact_2.driven.spot.row),
         ← at.place-at.ensures,
-      ) c.Reads-of.ensures.0,
-      c.Reads-of.ensures.1,
-    )
+      ) c.Reads-of.ensures.0;
+      count_bound = c.Reads-of.ensures.1;
+    }

@@ -8,19 +8,25 @@ use Rattle.shaper.proofs.lane.shape_at.Goals.{After-control_at-control0, After-c
 unfoldable start : After-numbers-1 → Start
 start c = search
 
--- PORT: a record of ['fact_1', 'fact_2', 'fact_3', 'fact_4']
 pub control_at-control0-requires : goal.control_at-control0-requires
 unfolding start
 control_at-control0-requires c =
-    let d = (start c).requires.fact_2 in
-    (d.spot, (d.controls.base0, (d.controls.mod0, d.controls.source0)))
+    let d = (start c).requires.fact_2 in record {
+      fact_1 = d.spot;
+      fact_2 = d.controls.base0;
+      fact_3 = d.controls.mod0;
+      fact_4 = d.controls.source0;
+    }
 
--- PORT: a record of ['fact_1', 'fact_2', 'fact_3', 'fact_4']
 pub control_at-control1-requires : goal.control_at-control1-requires
 unfolding start
 control_at-control1-requires c =
-    let d = (start (search)).requires.fact_2 in
-    (d.spot, (d.controls.base1, (d.controls.mod1, d.controls.source1)))
+    let d = (start (search)).requires.fact_2 in record {
+      fact_1 = d.spot;
+      fact_2 = d.controls.base1;
+      fact_3 = d.controls.mod1;
+      fact_4 = d.controls.source1;
+    }
 
 pub power_of-power0-requires : goal.power_of-power0-requires
 unfolding start
@@ -30,12 +36,14 @@ pub power_of-power1-requires : goal.power_of-power1-requires
 unfolding start
 power_of-power1-requires c = (start (search)).requires.fact_1
 
--- PORT: a record of ['fact_1', 'fact_2', 'fact_3']
 pub shape_of-requires : goal.shape_of-requires
 unfolding start
 shape_of-requires c =
-    let power0 : After-power_of-power0 = search in
-    ((start (search)).requires.fact_1, (power0.power_of-power0.ensures, c.power_of-power1.ensures))
+    let power0 : After-power_of-power0 = search in record {
+      fact_1 = (start (search)).requires.fact_1;
+      fact_2 = power0.power_of-power0.ensures;
+      fact_3 = c.power_of-power1.ensures;
+    }
 
 pub returns : goal.returns
 unfolding shaped_at control0_at control1_at

@@ -20,7 +20,7 @@ numbers c = rw c.rate_bad.ensures at c.numbers_refused-number.ensures
 -- none of them holds
 small : (c : Else-number-ne0) → let a = c.args in (a.s.frames ≤ 4096) × (a.s.lanes ≤ 64)
 small c =
-    let p = numbers_passed _ _ _ _ _ _ (sym (numbers (UP.After-numbers_refused-number c)) ∙ c.if-number-ne0.false) in
+    let p = numbers_passed _ _ _ _ _ _ (sym (numbers c) ∙ c.if-number-ne0.false) in
     ((good_frame _ _ _ _ _ p.frames).0, (good_lane _ _ _ p.lanes).1)
 
 pub returns-then-number-ne0 : goal.returns-then-number-ne0

@@ -17,11 +17,11 @@ number c =
     (control_lengths (control_buffers a.base0.now a.base1.now a.mod0.now a.mod1.now a.source0.now a.source1.now))
     (length a.curve.now) (length a.inner.now) (length a.fm.now) (length a.last.now)
 
-by-table : (c : After-reads_refused-number) → c.reads_refused-number.result ≡ number (UP.Start c)
+by-table : (c : After-reads_refused-number) → c.reads_refused-number.result ≡ number c
 by-table c = rw c.control_lengths-lengths.ensures at c.reads_refused-number.ensures
 
-none : (c : Else-number-ne0) → number (UP.Start c) ≡ 0
-none c = sym (by-table (UP.After-reads_refused-number c)) ∙ c.if-number-ne0.false
+none : (c : Else-number-ne0) → number c ≡ 0
+none c = sym (by-table c) ∙ c.if-number-ne0.false
 
 accepted : (c : Else-number-ne0)
     → let a = c.args in
@@ -46,14 +46,16 @@ overflow_cast-host c = let spot = (driven_of_lem (accepted (goal.at.overflow_cas
 pub nonzero_rem-sub : goal.nonzero_rem-sub
 nonzero_rem-sub c = (accepted (goal.at.nonzero_rem-sub c).Else-number-ne0).accepted.least
 
--- PORT: a record of ['fact_1', 'fact_2', 'fact_3']
 pub reads_taken-reads-requires : goal.reads_taken-reads-requires
 reads_taken-reads-requires c =
-    let a = accepted (goal.at.reads_taken-reads-requires c).Else-number-ne0 in
-    (fed_of a, (held_of a.accepted 2 _ a.carry, held_of a.accepted 1 _ (omega (arith, a.kept))))
+    let a = accepted (goal.at.reads_taken-reads-requires c).Else-number-ne0 in record {
+      fact_1 = fed_of a;
+      fact_2 = held_of a.accepted 2 _ a.carry;
+      fact_3 = held_of a.accepted 1 _ (omega (arith, a.kept));
+    }
 
 pub returns : goal.returns
 returns c =
     let test = (goal.at.returns c).Else-number-ne0 in
-    let did = c.reads_taken in
+    let did = c.reads_taken-reads in
     reads_done _ _ _ _ _ _ _ _ _ _ _ _ _ (none test) did.ensures did.auto.1.1.1.1.1.1.1.1.1.1.1.1.1.1.1.0

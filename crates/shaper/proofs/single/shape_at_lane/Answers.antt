@@ -17,11 +17,11 @@ number c =
     (control_lengths (control_buffers a.base0.now a.base1.now a.mod0.now a.mod1.now a.source0.now a.source1.now))
     (length a.pairs.now) (length a.last.now)
 
-by-table : (c : After-sample_refused-number) → c.sample_refused-number.result ≡ number (UP.Start c)
+by-table : (c : After-sample_refused-number) → c.sample_refused-number.result ≡ number c
 by-table c = rw c.control_lengths-lengths.ensures at c.sample_refused-number.ensures
 
-none : (c : Else-number-ne0) → number (UP.Start c) ≡ 0
-none c = sym (by-table (UP.After-sample_refused-number c)) ∙ c.if-number-ne0.false
+none : (c : Else-number-ne0) → number c ≡ 0
+none c = sym (by-table c) ∙ c.if-number-ne0.false
 
 accepted : (c : Else-number-ne0)
     → let a = c.args in
@@ -45,14 +45,16 @@ overflow_cast-host c = let spot = (driven_of_lem (accepted (goal.at.overflow_cas
 pub nonzero_rem-sub : goal.nonzero_rem-sub
 nonzero_rem-sub c = (accepted (goal.at.nonzero_rem-sub c).Else-number-ne0).accepted.least
 
--- PORT: a record of ['fact_1', 'fact_2', 'fact_3']
 pub sample_taken-value-requires : goal.sample_taken-value-requires
 sample_taken-value-requires c =
-    let a = accepted (goal.at.sample_taken-value-requires c).Else-number-ne0 in
-    (driven_of_lem a.accepted, (held_of a.accepted 4 _ a.cells, held_of a.accepted 1 _ (omega (arith, a.kept))))
+    let a = accepted (goal.at.sample_taken-value-requires c).Else-number-ne0 in record {
+      fact_1 = driven_of_lem a.accepted;
+      fact_2 = held_of a.accepted 4 _ a.cells;
+      fact_3 = held_of a.accepted 1 _ (omega (arith, a.kept));
+    }
 
 pub returns : goal.returns
 returns c =
     let test = (goal.at.returns c).Else-number-ne0 in
-    let did = c.sample_taken in
+    let did = c.sample_taken-value in
     sample_done _ _ _ _ _ _ _ _ _ _ (none test) did.ensures did.auto.1.1.1.1.1.1.1.1.1.1.1.1.0 did.auto.1.1.1.1.1.1.1.1.1.1.1.1.1.0

@@ -42,13 +42,18 @@ load_voice-v-requires c =
     let (_, (inside, (limits, (_, writable)))) = s.requires in
     voice_held {w = had s} limits writable _ inside
 
--- PORT: a record of ['powers_value_1', 'powers_value_2', 'powers_value_3', 'powers_value_4', 'readable', 'lanes_in_bounds']
 pub render_lane-end-requires : goal.render_lane-end-requires
 unfolding start
 render_lane-end-requires c =
     let s = start (search) in
-    let (powers, (inside, (limits, (readable, writable)))) = s.requires in
-    (powers, (inside, (limits, (cut_tables (lends s) readable, (cut_readable (lends s) readable, writable.work)))))
+    let (powers, (inside, (limits, (readable, writable)))) = s.requires in record {
+      powers_value_1 = powers;
+      powers_value_2 = inside;
+      powers_value_3 = limits;
+      powers_value_4 = cut_tables (lends s) readable;
+      readable = cut_readable (lends s) readable;
+      lanes_in_bounds = writable.work-1;
+    }
 
 pub store_voice-requires : goal.store_voice-requires
 unfolding start
@@ -57,15 +62,16 @@ store_voice-requires c =
     let (_, (inside, (limits, (_, writable)))) = s.requires in
     voice_held {w = had s} limits writable _ inside
 
--- PORT: a record of ['taken', 'lane_lt_n']
 pub decimate_lane-requires : goal.decimate_lane-requires
 unfolding start
 decimate_lane-requires c =
     let staged : After-stages_of-stages = search in
     let rendered : After-render_lane-end = search in
     let s = start (search) in
-    let (_, (inside, (limits, (_, writable)))) = s.requires in
-    (stages_taken {w = had s} limits writable _ _ staged.stages_of-stages.ensures rendered.render_lane-end.ensures.size, inside)
+    let (_, (inside, (limits, (_, writable)))) = s.requires in record {
+      taken = stages_taken {w = had s} limits writable _ _ staged.stages_of-stages.ensures rendered.render_lane-end.ensures.size;
+      lane_lt_n = inside;
+    }
 
 pub copy_lane-requires : goal.copy_lane-requires
 unfolding start
@@ -74,7 +80,7 @@ copy_lane-requires c =
     let rendered : After-render_lane-end = search in
     let s = start (search) in
     let (_, (inside, (limits, (_, writable)))) = s.requires in
-    rows_copied {w = had s} limits writable _ _ inside (decimated.decimate-lane.kept.1.1.1.1.1.0 ∙ rendered.render_lane-end.ensures.size)
+    rows_copied {w = had s} limits writable _ _ inside (decimated.decimate_lane.kept.1.1.1.1.1.0 ∙ rendered.render_lane-end.ensures.size)
 
 pub returns : goal.returns
 unfolding start

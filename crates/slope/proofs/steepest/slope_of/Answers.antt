@@ -6,55 +6,55 @@ use Rattle.slope.proofs.steepest.slope_of.Goals as goal
 
 pub returns-in-1 : goal.returns-in-1
 unfolding slope_of case_of
-returns-in-1 c = rw c.in_default.keys1 c.exp2.ensures
+returns-in-1 c = rw c.in-1.is c.exp2.ensures
 
 pub returns-in-2 : goal.returns-in-2
 unfolding slope_of case_of
-returns-in-2 c = rw c.in_default.keys2 (rw c.in_default.keys2 at c.pinch_slope.ensures)
+returns-in-2 c = rw c.in-2.is (rw c.in-2.is at c.pinch_slope.ensures)
 
 pub returns-in-3 : goal.returns-in-3
 unfolding slope_of case_of
-returns-in-3 c = rw c.in_default.keys3 (rw c.in_default.keys3 at c.pinch_slope-in-3.ensures)
+returns-in-3 c = rw c.in-3.is (rw c.in-3.is at c.pinch_slope-in-3.ensures)
 
 pub returns-in-4 : goal.returns-in-4
 unfolding slope_of case_of
-returns-in-4 c = rw c.in_default.keys4 (rw c.in_default.keys4 at c.pinch_slope-in-4.ensures)
+returns-in-4 c = rw c.in-4.is (rw c.in-4.is at c.pinch_slope-in-4.ensures)
 
 pub returns-in-5 : goal.returns-in-5
 unfolding slope_of case_of
-returns-in-5 c = rw c.in_default.keys5
+returns-in-5 c = rw c.in-5.is
 
 pub returns-in-6 : goal.returns-in-6
 unfolding slope_of case_of
-returns-in-6 c = rw c.in_default.keys6 (rw c.in_default.keys6 at c.lean_slope.ensures)
+returns-in-6 c = rw c.in-6.is (rw c.in-6.is at c.lean_slope.ensures)
 
 pub returns-in-7 : goal.returns-in-7
 unfolding slope_of case_of
-returns-in-7 c = rw c.in_default.keys7 (rw c.in_default.keys7 at c.lean_slope-in-7.ensures)
+returns-in-7 c = rw c.in-7.is (rw c.in-7.is at c.lean_slope-in-7.ensures)
 
 pub returns-in-8 : goal.returns-in-8
 unfolding slope_of case_of
-returns-in-8 c = rw c.in_default.keys8 (rw c.in_default.keys8 at c.lean_slope-in-8.ensures)
+returns-in-8 c = rw c.in-8.is (rw c.in-8.is at c.lean_slope-in-8.ensures)
 
 pub returns-in-10 : goal.returns-in-10
 unfolding slope_of case_of
-returns-in-10 c = rw c.in_default.keys9 c.lean_steepest.ensures
+returns-in-10 c = rw c.in-10.is c.lean_steepest.ensures
 
 pub returns-in-11 : goal.returns-in-11
 unfolding slope_of case_of
-returns-in-11 c = rw c.in_default.keys10
+returns-in-11 c = rw c.in-11.is
 
 pub returns-in-12 : goal.returns-in-12
 unfolding slope_of case_of
-returns-in-12 c = rw c.in_default.keys11
+returns-in-12 c = rw c.in-12.is
 
 pub returns-in-13 : goal.returns-in-13
 unfolding slope_of case_of
-returns-in-13 c = rw c.in_default.keys12
+returns-in-13 c = rw c.in-13.is
 
 pub returns-in-14 : goal.returns-in-14
 unfolding slope_of case_of
-returns-in-14 c = rw c.in_default.keys13
+returns-in-14 c = rw c.in-14.is
 
 pub returns-in_default : goal.returns-in_default
 unfolding slope_of

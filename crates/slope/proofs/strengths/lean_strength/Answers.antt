@@ -6,11 +6,11 @@ use Rattle.slope.proofs.strengths.lean_strength.Goals as goal
 
 pub returns-in-6 : goal.returns-in-6
 unfolding lean_strength case_of
-returns-in-6 c = rw c.in_default.keys1
+returns-in-6 c = rw c.in-6.is
 
 pub returns-in-7 : goal.returns-in-7
 unfolding lean_strength case_of
-returns-in-7 c = rw c.in_default.keys2
+returns-in-7 c = rw c.in-7.is
 
 pub returns-in_default : goal.returns-in_default
 unfolding lean_strength

@@ -11,7 +11,7 @@ use Rattle.spans.proofs.asked.most_to.Goals.{After-place-at, At-loop-i, Start}
 
 at_in : (c : After-place-at) → c.place-at.result < length c.args.xs.now
 at_in c =
-    let s = (UP.Start c) in
+    let s = c in
     rw c.place-at.ensures (row_held _ _ _ _ _ _ (s.args.from + c.loop-i.i) s.requires (omega arith))
 
 pub loop-i-init : goal.loop-i-init

@@ -25,11 +25,11 @@ number c =
     prepare_refusal a.mode0 a.mode1 a.factor a.lanes a.active a.frames a.rate
     (lengths_of (controls c) a.curve.now (spans a.inner.now a.stretch.now a.add.now))
 
-by-table : (c : After-prepare_refused-number) → c.prepare_refused-number.result ≡ number (UP.Start c)
+by-table : (c : After-prepare_refused-number) → c.prepare_refused-number.result ≡ number c
 by-table c = rw c.control_lengths.ensures at c.prepare_refused-number.ensures
 
-none : (c : Else-number-ne0) → number (UP.Start c) ≡ 0
-none c = sym (by-table (UP.After-prepare_refused-number c)) ∙ c.if-number-ne0.false
+none : (c : Else-number-ne0) → number c ≡ 0
+none c = sym (by-table c) ∙ c.if-number-ne0.false
 
 pub returns-then-number-ne0 : goal.returns-then-number-ne0
 returns-then-number-ne0 c = turned_down_lem _ _ _ _ _ _ _ _ _ _ _ (by-table (goal.at.returns-then-number-ne0 c).After-prepare_refused-number) c.if-number-ne0.true
@@ -43,18 +43,20 @@ returns-then-number-ne0 c = turned_down_lem _ _ _ _ _ _ _ _ _ _ _ (by-table (goa
 pub spans_of-rows-requires : goal.spans_of-rows-requires
 spans_of-rows-requires c = (accepted _ _ _ _ _ _ _ _ (none (goal.at.spans_of-rows-requires c).Else-number-ne0)).takes.block
 
--- PORT: a record of ['powers_value', 'takes', 'active_le_n']
 pub prepare_lanes-requires : goal.prepare_lanes-requires
 prepare_lanes-requires c =
     let k = (goal.at.prepare_lanes-requires c).After-spans_of-rows in
     let t = (goal.at.prepare_lanes-requires c).After-power_table-powers in
-    let p = accepted _ _ _ _ _ _ _ _ (none (goal.at.prepare_lanes-requires c).Else-number-ne0) in
-    (t.power_table-powers.ensures.value, (rw k.spans_of-rows.ensures p.takes, p.lanes))
+    let p = accepted _ _ _ _ _ _ _ _ (none (goal.at.prepare_lanes-requires c).Else-number-ne0) in record {
+      powers_value = t.power_table-powers.ensures.value;
+      takes = rw k.spans_of-rows.ensures p.takes;
+      active_le_n = p.lanes;
+    }
 
 pub returns : goal.returns
 returns c =
     let l = (goal.at.returns c).After-prepare_lanes in
-    let did = l.prepare-lanes in
+    let did = l.prepare_lanes in
     let k = (goal.at.returns c).After-spans_of-rows in
     let s = (goal.at.returns c).After-steepest_of-steepest in
     done _ _ _ _ _ _ _ _ _ _ (none (goal.at.returns c).Else-number-ne0) k.spans_of-rows.ensures s.steepest_of-steepest.ensures did.ensures

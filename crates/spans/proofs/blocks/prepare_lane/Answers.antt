@@ -10,11 +10,12 @@ use Rattle.spans.proofs.blocks.prepare_lane.Goals.{After-place-at, At-loop-s, In
 pub loop-s-init : goal.loop-s-init
 loop-s-init c = (omega arith, refl, refl, refl, filled_none _ _ _ _ _ _ _ _ _ _)
 
--- PORT: a record of ['powers_value', 'prepares']
 pub span_at-span-requires : goal.span_at-span-requires
 span_at-span-requires c =
-    let p = c.requires in
-    (p.0, sub_block_lem p.1.0 _ c.loop-s.s p.1.1 (omega arith))
+    let p = c.requires in record {
+      powers_value = p.0;
+      prepares = sub_block_lem p.1.0 _ c.loop-s.s p.1.1 (omega arith);
+    }
 
 -- where a turn stores
 stored : (c : In-loop-s)
@@ -30,11 +31,11 @@ stored c =
 at_in : (c : After-place-at)
     → let now = c.loop-s in
     (c.place-at.result < length now.inner) × (c.place-at.result < length now.stretch) × (c.place-at.result < length now.add)
-at_in c = rw c.place-at.ensures (stored (UP.In-loop-s c))
+at_in c = rw c.place-at.ensures (stored c)
 
 low : (c : After-place-at) → c.place-at.result < 8192
 low c =
-    let here = (UP.At-loop-s c) in
+    let here = c in
     let p = c.requires in
     rw c.place-at.ensures (stored_low p.1.0 _ here.loop-s.s p.1.1 (omega arith))
 

@@ -6,19 +6,21 @@ use Rattle.grid.proofs.EachLaws.{each_none, each_join}
 use Rattle.spans.proofs.blocks.prepare_lanes.Goals as goal
 use Rattle.spans.proofs.blocks.prepare_lanes.Goals.{At-loop-lane, Start}
 
--- PORT: a record of ['powers_value', 'takes', 'lane_lt_n']
 pub prepare_lane-requires : goal.prepare_lane-requires
 prepare_lane-requires c =
     let here = (goal.at.prepare_lane-requires c).At-loop-lane in
     let p = c.requires in
-    let i = here.loop-lane.invariant in
-    (p.0, (rw (i.1, i.2, i.3) p.1.0, omega arith))
+    let i = here.loop-lane.invariant in record {
+      powers_value = p.0;
+      takes = rw (i.1, i.2, i.3) p.1.0;
+      lane_lt_n = omega arith;
+    }
 
 pub loop-lane-preserved : goal.loop-lane-preserved
 loop-lane-preserved c =
     let here = (goal.at.loop-lane-preserved c).At-loop-lane in
     let i = here.loop-lane.invariant in
-    let did = c.prepare-lane in (
+    let did = c.prepare_lane in (
       omega arith,
       did.auto.1.1.1.1.1.1.1.1.1.1.1.1.1.1.1.1.0 ∙ i.1,
       did.auto.1.1.1.1.1.1.1.1.1.1.1.1.1.1.1.1.1.0 ∙ i.2,

@@ -5,14 +5,13 @@ use Rattle.controls.proofs.LentLaws.{lent_none, lent_some}
 use Rattle.spans.proofs.slopes.add_of.Goals as goal
 use Rattle.spans.proofs.slopes.add_of.Goals.{Start}
 
--- PORT: a record of ['fact_1', 'fact_2']
 pub source_span-w-requires : goal.source_span-w-requires
 source_span-w-requires c =
     let s = (goal.at.source_span-w-requires c).Start in
-    let sub = s.requires.fact_2.0 in (
-      record { inside = sub.inside; few = sub.few; block = sub.block; rows = sub.rows; held = s.requires.fact_2.1.holds c.if-source-eq0.false },
-      sub.first,
-    )
+    let sub = s.requires.fact_2.0 in record {
+      fact_1 = record { inside = sub.inside; few = sub.few; block = sub.block; rows = sub.rows; held = s.requires.fact_2.1.holds c.if-source-eq0.false };
+      fact_2 = sub.first;
+    }
 
 pub returns-then-source-eq0 : goal.returns-then-source-eq0
 unfolding add_of

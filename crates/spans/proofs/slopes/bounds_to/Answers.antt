@@ -20,7 +20,7 @@ float_from_bits-b-2 c = tt
 
 at_in : (c : After-place-at) → c.place-at.result < length c.args.modulation.now
 at_in c =
-    let s = (UP.Start c) in
+    let s = c in
     rw c.place-at.ensures (row_held _ _ _ _ _ _ (s.args.from + c.loop-i.i) s.requires (omega arith))
 
 pub loop-i-init : goal.loop-i-init

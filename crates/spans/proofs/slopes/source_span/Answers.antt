@@ -11,12 +11,12 @@ use Rattle.spans.proofs.slopes.source_span.Goals.{After-place-at, After-place-fi
 
 first-in : (c : After-place-first) → c.place-first.result < length c.args.source.now
 first-in c =
-    let s = (UP.Start c) in
+    let s = c in
     rw c.place-first.ensures (row_held _ _ _ _ _ _ s.args.from s.requires.fact_1 s.requires.fact_2)
 
 at_in : (c : After-place-at) → c.place-at.result < length c.args.source.now
 at_in c =
-    let s = (UP.Start c) in
+    let s = c in
     rw c.place-at.ensures (row_held _ _ _ _ _ _ (s.args.from + c.loop-i.i) s.requires.fact_1 (omega arith))
 
 pub loop-i-init : goal.loop-i-init

@@ -18,19 +18,25 @@ sub c =
     let e = rows c in
     record { inside = p.inside; few = p.few; block = p.block; first = p.first; rows = omega arith }
 
--- PORT: a record of ['fact_1', 'fact_2', 'fact_3', 'fact_4']
 pub slot_span-one-requires : goal.slot_span-one-requires
 slot_span-one-requires c =
     let j = (goal.at.slot_span-one-requires c).Joined-left-lt-SUB_BLOCK in
-    let p = c.requires in
-    (p.0, (sub j, (p.1.controls.mod1, p.1.controls.source1)))
+    let p = c.requires in record {
+      fact_1 = p.0;
+      fact_2 = sub j;
+      fact_3 = p.1.controls.mod1;
+      fact_4 = p.1.controls.source1;
+    }
 
--- PORT: a record of ['fact_1', 'fact_2', 'fact_3', 'fact_4']
 pub slot_span-requires : goal.slot_span-requires
 slot_span-requires c =
     let j = (goal.at.slot_span-requires c).Joined-left-lt-SUB_BLOCK in
-    let p = c.requires in
-    (p.0, (sub j, (p.1.controls.mod0, p.1.controls.source0)))
+    let p = c.requires in record {
+      fact_1 = p.0;
+      fact_2 = sub j;
+      fact_3 = p.1.controls.mod0;
+      fact_4 = p.1.controls.source0;
+    }
 
 pub returns : goal.returns
 unfolding span_at

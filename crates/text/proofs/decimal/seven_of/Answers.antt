@@ -21,4 +21,4 @@ pub at_end-requires : goal.at_end-requires
 at_end-requires c = c.loop-i.invariant.1.room
 
 pub returns : goal.returns
-returns c = c.at_end_lem.ensures ∙ ap at_end (scanned_all _ _ _ c.loop-i-test.false c.loop-i.invariant.1) ∙ seven_found _
+returns c = c.at_end.ensures ∙ ap at_end (scanned_all _ _ _ c.loop-i-test.false c.loop-i.invariant.1) ∙ seven_found _

@@ -12,16 +12,16 @@ started : (c : After-start-start) → Few c.start-start.result
 started c = as_ensured c.start-start.ensures (start_few _)
 
 mapped1 : (c : After-map_slot-list1) → Few c.map_slot-list1.result
-mapped1 c = as_ensured c.map_slot-list1.ensures (mapped_few _ _ _ _ _ _ _ (started (UP.After-start-start c)))
+mapped1 c = as_ensured c.map_slot-list1.ensures (mapped_few _ _ _ _ _ _ _ (started c))
 
 mapped0 : (c : After-map_slot-list0) → Few c.map_slot-list0.result
-mapped0 c = as_ensured c.map_slot-list0.ensures (mapped_few _ _ _ _ _ _ _ (mapped1 (UP.After-map_slot-list1 c)))
+mapped0 c = as_ensured c.map_slot-list0.ensures (mapped_few _ _ _ _ _ _ _ (mapped1 c))
 
 moved1 : (c : After-move_on-moved1) → Few c.move_on-moved1.result.list
-moved1 c = as_ensured (ap (λ m. m.list) c.move_on-moved1.ensures) (moved_few _ _ _ _ _ _ (mapped0 (UP.After-map_slot-list0 c)))
+moved1 c = as_ensured (ap (λ m. m.list) c.move_on-moved1.ensures) (moved_few _ _ _ _ _ _ (mapped0 c))
 
 moved0 : (c : After-move_on-moved0) → Few c.move_on-moved0.result.list
-moved0 c = as_ensured (ap (λ m. m.list) c.move_on-moved0.ensures) (moved_few _ _ _ _ _ _ (moved1 (UP.After-move_on-arg-1 c)))
+moved0 c = as_ensured (ap (λ m. m.list) c.move_on-moved0.ensures) (moved_few _ _ _ _ _ _ (moved1 c))
 
 -- PORT: a record of ['fact_1', 'fact_2', 'fact_3']
 pub map_slot-list1-requires : goal.map_slot-list1-requires

@@ -4,12 +4,15 @@ use Rattle.voice.proofs.Powers.{phase_power}
 use Rattle.voice.proofs.SumRunLaws.{list_summed}
 use Rattle.voice.proofs.sum_run.sum_list.Goals as goal
 
--- PORT: a record of ['power0_value_1', 'power0_value_2', 'in_bounds_1', 'in_bounds_2']
 pub mapped_sum-x-requires : goal.mapped_sum-x-requires
 mapped_sum-x-requires c =
     let p = c.requires in
-    let on = p.1.1.1 in
-    ((λ e. phase_power _ _ _ (sym on.0 ∙ e) on.1.1.0), ((λ e. phase_power _ _ _ (sym on.1.0 ∙ e) on.1.1.1), (p.1.0, p.1.1.0)))
+    let on = p.1.1.1 in record {
+      power0_value_1 = (λ e. phase_power _ _ _ (sym on.0 ∙ e) on.1.1.0);
+      power0_value_2 = (λ e. phase_power _ _ _ (sym on.1.0 ∙ e) on.1.1.1);
+      in_bounds_1 = p.1.0;
+      in_bounds_2 = p.1.1.0;
+    }
 
 pub returns : goal.returns
 returns c =

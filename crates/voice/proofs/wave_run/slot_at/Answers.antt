@@ -4,11 +4,12 @@ use Rattle.voice.proofs.NotWave.{not_wave}
 use Rattle.voice.proofs.Powers.{wave_power_lem}
 use Rattle.voice.proofs.wave_run.slot_at.Goals as goal
 
--- PORT: a record of ['fact_1', 'fact_2']
 pub slot_of-requires : goal.slot_of-requires
 slot_of-requires c =
-    let p = c.requires in
-    (p.0, wave_power_lem _ _ _ (sym c.in_wave.ensures ∙ c.if-in_wave.true) p.1)
+    let p = c.requires in record {
+      fact_1 = p.0;
+      fact_2 = wave_power_lem _ _ _ (sym c.in_wave.ensures ∙ c.if-in_wave.true) p.1;
+    }
 
 pub returns : goal.returns
 returns c = not_wave _ _ _ _ _ _ (sym c.in_wave.ensures ∙ c.if-in_wave.false)

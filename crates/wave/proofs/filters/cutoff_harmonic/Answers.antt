@@ -6,7 +6,7 @@ use Rattle.wave.proofs.filters.cutoff_harmonic.Goals as goal
 
 pub returns-in-17 : goal.returns-in-17
 unfolding cutoff_harmonic case_of
-returns-in-17 c = rw c.in_default.keys1 c.exp2.ensures
+returns-in-17 c = rw c.in-17.is c.exp2.ensures
 
 pub returns-in_default : goal.returns-in_default
 unfolding cutoff_harmonic

@@ -7,7 +7,7 @@ use Rattle.wave.proofs.filters.filter_with.Goals as goal
 
 pub returns-in-17 : goal.returns-in-17
 unfolding filter_with case_of
-returns-in-17 c = rw (c.in_default.keys1, step, step, step, step, step, step, step)
+returns-in-17 c = rw (c.in-17.is, step, step, step, step, step, step, step)
 
 pub returns-in_default : goal.returns-in_default
 unfolding filter_with

@@ -6,11 +6,11 @@ use Rattle.wave.proofs.slots.is_filter.Goals as goal
 
 pub returns-in-17 : goal.returns-in-17
 unfolding is_filter case_of
-returns-in-17 c = rw c.in_default.keys1
+returns-in-17 c = rw c.in-17.is
 
 pub returns-in-18 : goal.returns-in-18
 unfolding is_filter case_of
-returns-in-18 c = rw c.in_default.keys2
+returns-in-18 c = rw c.in-18.is
 
 pub returns-in_default : goal.returns-in_default
 unfolding is_filter

@@ -4,7 +4,7 @@ use Rattle.wave.proofs.Settings.{at_nothing, at_level}
 use Rattle.wave.proofs.slots.shape.Goals as goal
 
 pub returns-in-Nothing : goal.returns-in-Nothing
-returns-in-Nothing c = at_nothing _ _ _ _ _ _ c.in-Level.keys1
+returns-in-Nothing c = at_nothing _ _ _ _ _ _ c.in-Nothing-1.is
 
 pub returns-in-Filter : goal.returns-in-Filter
 unfolding shape_of
@@ -15,4 +15,4 @@ unfolding shape_of
 returns-in-Curve c = rw c.setting2.given.1 c.smooth.ensures
 
 pub returns-in-Level : goal.returns-in-Level
-returns-in-Level c = rw c.level.ensures (at_level _ _ _ _ _ _ c.in-Level.keys4)
+returns-in-Level c = rw c.level.ensures (at_level _ _ _ _ _ _ c.in-Level-1.is)

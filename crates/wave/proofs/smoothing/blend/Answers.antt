@@ -7,7 +7,7 @@ use Rattle.wave.proofs.smoothing.blend.Goals as goal
 
 pub returns-in-28 : goal.returns-in-28
 unfolding blend_of case_of
-returns-in-28 c = rw (c.in_default.keys1, step)
+returns-in-28 c = rw (c.in-28.is, step)
 
 pub returns-in_default : goal.returns-in_default
 unfolding blend_of

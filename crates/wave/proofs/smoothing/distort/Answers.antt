@@ -7,7 +7,7 @@ use Rattle.wave.proofs.smoothing.distort.Goals as goal
 
 pub returns-in-28 : goal.returns-in-28
 unfolding distort_of case_of
-returns-in-28 c = rw c.in_default.keys1 c.blend_rectified.ensures
+returns-in-28 c = rw c.in-28.is c.blend_rectified.ensures
 
 pub returns-in_default : goal.returns-in_default
 unfolding distort_of curved

@@ -6,7 +6,7 @@ use Rattle.wave.proofs.smoothing.driven_by.Goals as goal
 
 pub returns-in-28 : goal.returns-in-28
 unfolding driven_of case_of
-returns-in-28 c = rw c.in_default.keys1
+returns-in-28 c = rw c.in-28.is
 
 pub returns-in_default : goal.returns-in_default
 unfolding driven_of

@@ -6,11 +6,11 @@ use Rattle.wave.proofs.smoothing.most.Goals as goal
 
 pub returns-in-24 : goal.returns-in-24
 unfolding most_of case_of
-returns-in-24 c = rw c.in_default.keys1
+returns-in-24 c = rw c.in-24.is
 
 pub returns-in-25 : goal.returns-in-25
 unfolding most_of case_of
-returns-in-25 c = rw c.in_default.keys2
+returns-in-25 c = rw c.in-25.is
 
 pub returns-in_default : goal.returns-in_default
 unfolding most_of

@@ -7,19 +7,19 @@ use Rattle.reads.proofs.lists.ReadList.push.Goals as goal
 
 pub returns-in-0 : goal.returns-in-0
 unfolding push_of
-returns-in-0 c = rw c.in_default.keys1
+returns-in-0 c = rw c.in-0.is
 
 pub returns-in-1 : goal.returns-in-1
 unfolding push_of
-returns-in-1 c = rw c.in_default.keys2
+returns-in-1 c = rw c.in-1.is
 
 pub returns-in-2 : goal.returns-in-2
 unfolding push_of
-returns-in-2 c = rw c.in_default.keys3
+returns-in-2 c = rw c.in-2.is
 
 pub returns-in-3 : goal.returns-in-3
 unfolding push_of
-returns-in-3 c = rw c.in_default.keys4
+returns-in-3 c = rw c.in-3.is
 
 pub returns-in_default : goal.returns-in_default
 unfolding push_of
