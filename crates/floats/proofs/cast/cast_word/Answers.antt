@@ -37,7 +37,9 @@ pub returns-else-b-lt2147483648 : goal.returns-else-b-lt2147483648
 returns-else-b-lt2147483648 c = let s = (goal.at.returns-else-b-lt2147483648 c).Else-x in top_down (pattern s) (fits s) (number s) c.if-c-ge1325400064.true c.if-b-lt2147483648.false ∙ back s
 
 size-lt : (c : After-short_part-size) → c.short_part-size.result < 2 ^ 31
-size-lt c = let s = c in rw c.short_part-size.ensures (short_lt (pattern s) (fits s) (number s) c.if-c-ge1325400064.false)
+size-lt c =
+    let v = c.well_formed.0.1 in
+    rw c.short_part-size.ensures (short_lt (bits_of c.args.x) (bits_lt c.args.x v) (read_no_nan c.args.x v c.if-x.false) c.if-c-ge1325400064.false)
 
 pub overflow_cast-up : goal.overflow_cast-up
 overflow_cast-up c = omega (arith, size-lt c)

@@ -1,24 +1,16 @@
 -- `floats::exp2` meets its contract: what is read from the pattern of x is x, and `proofs/PowerCases.antt` has the definition in each case.
 use mathlib.Core.Path.{◌≡◌, refl, sym, ap, ◌∙◌, subst}
 use mathlib.Core.Bool.{Bool, true, false, not}
-use Prim.Native.Nat.{ℕ}
 use native.Mathlib.Omega.{arith}
 use lib.Dec.{T}
 use lib.IntN.{pos}
-use lib.Ieee.{Float, inf, fin, binary32, div, neg, of_bits, is_nan, le, lt}
+use lib.Ieee.{Float, inf, fin, binary32, div, neg, of_bits, is_nan, fits, ne, le, lt}
 use Rattle.floats.specs.Exp2.{exp2_of, pow_at, scaled, one28, minus126}
 use Rattle.floats.proofs.Nan.{is_nan_lem, no_nan, no_nan_T}
 use Rattle.floats.proofs.Patterns.{bits_no_nan}
 use Rattle.floats.proofs.Read.{bits_of, read}
 use Rattle.floats.proofs.PowerCases.{of_nan, of_large, of_low, of_middle, Middle, middle}
 use Rattle.floats.proofs.power.exp2.Goals as goal
-use Rattle.floats.proofs.power.exp2.Goals.{Else-x-3, Start}
-
-abbrev bits : Start → ℕ
-bits c = bits_of c.args.x
-
-reads : (c : Start) → of_bits binary32 (bits c) ≡ c.args.x
-reads c = read c.args.x c.well_formed.1.0.1
 
 -- the program's constants, by their patterns
 is-128 : of_bits binary32 1124073472 ≡ one28
@@ -44,14 +36,13 @@ large x t h = subst (λ (y : Float). le y x ≡ t) is-128 h
 low : (x : Float) (t : Bool) → lt x (neg (of_bits binary32 1123811328)) ≡ t → lt x minus126 ≡ t
 low x t h = subst (λ (y : Float). lt x y ≡ t) is-minus-126 h
 
-mid : (c : Else-x-3) → Middle (bits c)
-mid c =
-    let s = c in
-    let r = sym (reads s) in
-    middle (bits s)
-    (subst (λ (y : Float). is_nan y ≡ false) r (no_nan s.args.x c.if-x.false))
-    (subst (λ (y : Float). le one28 y ≡ false) r (large s.args.x false c.if-x-2.false))
-    (subst (λ (y : Float). lt y minus126 ≡ false) r (low s.args.x false c.if-x-3.false))
+mid : (x : Float) → fits binary32 x ≡ true → ne x x ≡ false → le (of_bits binary32 1124073472) x ≡ false → lt x (neg (of_bits binary32 1123811328)) ≡ false → Middle (bits_of x)
+mid x good a b c =
+    let r = sym (read x good) in
+    middle (bits_of x)
+    (subst (λ (y : Float). is_nan y ≡ false) r (no_nan x a))
+    (subst (λ (y : Float). le one28 y ≡ false) r (large x false b))
+    (subst (λ (y : Float). lt y minus126 ≡ false) r (low x false c))
 
 pub returns-then-x : goal.returns-then-x
 returns-then-x c = subst (λ (x : Float). x ≡ exp2_of x) (sym (is_nan_lem c.args.x c.if-x.true)) of_nan
@@ -70,12 +61,14 @@ pub float_to_bits-x : goal.float_to_bits-x
 float_to_bits-x c = no_nan_T c.args.x c.if-x.false
 
 pub steps-requires : goal.steps-requires
-steps-requires c = (mid c).most
+steps-requires c = (mid c.args.x c.well_formed.1.0.1 c.if-x.false c.if-x-2.false c.if-x-3.false).most
 
 pub power_bits-requires : goal.power_bits-requires
-power_bits-requires c = record {
+power_bits-requires c =
+    let m = mid c.args.x c.well_formed.1.0.1 c.if-x.false c.if-x-2.false c.if-x-3.false in
+    record {
       fact_1 = c.requires;
-      fact_2 = omega (arith, (mid (goal.at.power_bits-requires c).Else-x-3).low, (mid (goal.at.power_bits-requires c).Else-x-3).high, c.steps.ensures);
+      fact_2 = omega (arith, m.low, m.high, c.steps.ensures);
     }
 
 pub float_from_bits-result : goal.float_from_bits-result
@@ -84,6 +77,7 @@ float_from_bits-result c = subst (λ (t : Bool). T (not t)) (sym (bits_no_nan c.
 pub returns : goal.returns
 returns c =
     let x = c.args.x in
+    let m = mid x c.well_formed.1.0.1 c.if-x.false c.if-x-2.false c.if-x-3.false in
     c.power_bits.ensures.1
-    ∙ ap pow_at (c.steps.ensures ∙ sym (mid (goal.at.returns c).Else-x-3).is ∙ ap scaled (reads (goal.at.returns c).Start))
+    ∙ ap pow_at (c.steps.ensures ∙ sym m.is ∙ ap scaled (read x c.well_formed.1.0.1))
     ∙ sym (of_middle x (no_nan x c.if-x.false) (large x false c.if-x-2.false) (low x false c.if-x-3.false))

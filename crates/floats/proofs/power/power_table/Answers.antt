@@ -7,6 +7,6 @@ use Rattle.floats.proofs.power.power_table.Goals as goal
 pub returns : goal.returns
 unfolding entries entry_of
 returns c = record {
-      value = refl;
-      rule = λ k h. rule k h;
-    }
+  value = refl;
+  rule = λ k h. rule k h;
+}

@@ -11,7 +11,7 @@ use Rattle.floats.specs.Promises.{steps_of}
 use Rattle.floats.proofs.Shifts.{exponent_le, plus, minus, room}
 use Rattle.floats.proofs.Patterns.{significand_lt}
 use Rattle.floats.proofs.power.steps.Goals as goal
-use Rattle.floats.proofs.power.steps.Goals.{After-drop_of-s, After-moved}
+use Rattle.floats.proofs.power.steps.Goals.{After-drop_of-s}
 
 -- what the body's numbers are, from m and s as the calls give them
 record Facts (b m s : ℕ) : Type 0 where
@@ -58,13 +58,15 @@ pub drop_of-s-requires : goal.drop_of-s-requires
 drop_of-s-requires c = omega (arith, exponent_le c.args.b c.requires)
 
 pub moved-requires : goal.moved-requires
-moved-requires c = ((here c).ranges, (here c).room)
+moved-requires c = ((here c).fits, (here c).room)
 
-total : (c : After-moved) → c.moved.result / 2 ^ c.drop_of-s.result ≡ steps_of c.args.b
-total c = ap (λ (n : ℕ). n / 2 ^ c.drop_of-s.result) c.moved.ensures ∙ (here c).is
+total : (b m s n : ℕ) → Facts b m s → n ≡ cond (leb 2147483648 b) ((8388608 * 2 ^ s) % 2 ^ 64 - m) ((8388608 * 2 ^ s) % 2 ^ 64 + m) → n / 2 ^ s ≡ steps_of b
+total b m s n f e = ap (λ (n : ℕ). n / 2 ^ s) e ∙ f.is
 
 pub overflow_cast-result-2 : goal.overflow_cast-result-2
-overflow_cast-result-2 c = record { fits = subst (λ (n : ℕ). n < 2 ^ 32) (sym (total c)) (here (goal.at.overflow_cast-result-2 c).After-drop_of-s).small }
+overflow_cast-result-2 c =
+    let f = here (goal.at.overflow_cast-result-2 c).After-drop_of-s in
+    record { fits = subst (λ (n : ℕ). n < 2 ^ 32) (sym (total c.args.b c.significand-m.result c.drop_of-s.result c.moved.result f c.moved.ensures)) f.small }
 
 pub returns : goal.returns
-returns c = total c
+returns c = total c.args.b c.significand-m.result c.drop_of-s.result c.moved.result (here (goal.at.returns c).After-drop_of-s) c.moved.ensures

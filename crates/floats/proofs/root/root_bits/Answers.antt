@@ -25,9 +25,10 @@ range c = rw (places c.args.m c.args.j) (raised c.args.m (c.args.j % 2) (omega a
 whole : (c : Start) → up c % 2 ^ 64 ≡ up c
 whole c = mod-eq_of_lt (omega (arith, (range c).1))
 
--- PORT: a record of ['fact_1', 'fact_2']
 pub nearest_root-q-requires : goal.nearest_root-q-requires
-nearest_root-q-requires c = rw (whole (goal.at.nearest_root-q-requires c).Start) (range (goal.at.nearest_root-q-requires c).Start, c.guess-near.ensures)
+nearest_root-q-requires c =
+    let s = (goal.at.nearest_root-q-requires c).Start in
+    record { fact_1 = rw (whole s) (range s); fact_2 = c.guess-near.ensures }
 
 pub returns : goal.returns
 returns c =

@@ -24,13 +24,14 @@ reads c = read c.args.x c.well_formed.0.1
 at : (c : Start) (b : ℕ) → bits_of c.args.x ≡ b → of_bits binary32 b ≡ sqrt_of (of_bits binary32 b) → c.args.x ≡ sqrt_of c.args.x
 at c b e h = subst (λ (x : Float). x ≡ sqrt_of x) (ap (λ (n : ℕ). of_bits binary32 n) (sym e) ∙ reads c) h
 
--- both clauses, of an r that is the definition's
-both : (x r : Float) → r ≡ sqrt_of x → (r ≡ sqrt_of x) × ((n : ℕ) → 0 < n → HasValue x false n (2 ^ 149) → IsRoot n r)
-both x r e = (e, λ n p h. subst (IsRoot n) (sym e) (is_root x n p h))
+-- the second clause, of an r that is the definition's
+squares : (x r : Float) → r ≡ sqrt_of x → (n : ℕ) → 0 < n → HasValue x false n (2 ^ 149) → IsRoot n r
+squares x r e n p h = subst (IsRoot n) (sym e) (is_root x n p h)
 
--- PORT: a record of ['value', 'squares']
 pub returns-then-x : goal.returns-then-x
-returns-then-x c = both _ _ (subst (λ (x : Float). x ≡ sqrt_of x) (sym (is_nan_lem c.args.x c.if-x.true)) of_nan)
+returns-then-x c =
+    let e = subst (λ (x : Float). x ≡ sqrt_of x) (sym (is_nan_lem c.args.x c.if-x.true)) of_nan in
+    record { value = e; squares = squares c.args.x c.args.x e }
 
 pub float_to_bits-b : goal.float_to_bits-b
 float_to_bits-b c = no_nan_T c.args.x c.if-x.false
@@ -38,42 +39,45 @@ float_to_bits-b c = no_nan_T c.args.x c.if-x.false
 pub float_from_bits-result : goal.float_from_bits-result
 float_from_bits-result c = rw (bits_no_nan c.root_bits.result c.root_bits.ensures.most) tt
 
--- PORT: a record of ['value', 'squares']
 pub returns-then-b-ge8388608 : goal.returns-then-b-ge8388608
 returns-then-b-ge8388608 c =
     let s = (goal.at.returns-then-b-ge8388608 c).Start in
     let r = c.root_bits in
-    both _ _
-    (read_root ((8388608 + bits_of s.args.x % 8388608) * 2 ^ (bits_of s.args.x / 8388608 - 1)) r.result (mul-pos (omega arith) (pow_pos (bits_of s.args.x / 8388608 - 1))) (omega (arith, r.ensures.least)) r.ensures.most r.ensures.squares
+    let e : of_bits binary32 r.result ≡ sqrt_of c.args.x =
+    read_root ((8388608 + bits_of s.args.x % 8388608) * 2 ^ (bits_of s.args.x / 8388608 - 1)) r.result (mul-pos (omega arith) (pow_pos (bits_of s.args.x / 8388608 - 1))) (omega (arith, r.ensures.least)) r.ensures.most r.ensures.squares
     ∙ sym (of_normal (bits_of s.args.x) c.if-b-ge8388608.true c.if-b-lt2139095040.true)
-    ∙ ap sqrt_of (reads s))
+    ∙ ap sqrt_of (reads s) in
+    record { value = e; squares = squares c.args.x _ e }
 
 pub float_from_bits-result-then-b-gt0 : goal.float_from_bits-result-then-b-gt0
 float_from_bits-result-then-b-gt0 c = rw (bits_no_nan c.small_root_bits.result c.small_root_bits.ensures.0) tt
 
--- PORT: a record of ['value', 'squares']
 pub returns-then-b-gt0 : goal.returns-then-b-gt0
 returns-then-b-gt0 c =
     let s = (goal.at.returns-then-b-gt0 c).Start in
-    both _ _ (c.small_root_bits.ensures.1 ∙ sym (of_subnormal (bits_of s.args.x) c.if-b-gt0.true c.if-b-ge8388608.false) ∙ ap sqrt_of (reads s))
+    let e : of_bits binary32 c.small_root_bits.result ≡ sqrt_of c.args.x = c.small_root_bits.ensures.1 ∙ sym (of_subnormal (bits_of s.args.x) c.if-b-gt0.true c.if-b-ge8388608.false) ∙ ap sqrt_of (reads s) in
+    record { value = e; squares = squares c.args.x _ e }
 
--- PORT: a record of ['value', 'squares']
 pub returns-then-b-lt2139095040 : goal.returns-then-b-lt2139095040
-returns-then-b-lt2139095040 c = both _ _ (at (goal.at.returns-then-b-lt2139095040 c).Start 0 (omega (arith, c.if-b-gt0.false)) of_zero)
+returns-then-b-lt2139095040 c =
+    let e = at (goal.at.returns-then-b-lt2139095040 c).Start 0 (omega (arith, c.if-b-gt0.false)) of_zero in
+    record { value = e; squares = squares c.args.x c.args.x e }
 
 zero_by_zero : div binary32 (of_bits binary32 0) (of_bits binary32 0) ≡ nan
 unfolding div of_bits
 zero_by_zero = refl
 
--- PORT: a record of ['value', 'squares']
 pub returns-then-b-gt2147483648 : goal.returns-then-b-gt2147483648
 returns-then-b-gt2147483648 c =
     let s = (goal.at.returns-then-b-gt2147483648 c).Start in
-    both _ _ (zero_by_zero ∙ sym (of_sign (bits_of s.args.x) c.if-b-gt2147483648.true (bits_lt s.args.x s.well_formed.0.1)) ∙ ap sqrt_of (reads s))
+    let e : div binary32 (of_bits binary32 0) (of_bits binary32 0) ≡ sqrt_of c.args.x = zero_by_zero ∙ sym (of_sign (bits_of s.args.x) c.if-b-gt2147483648.true (bits_lt s.args.x s.well_formed.0.1)) ∙ ap sqrt_of (reads s) in
+    record { value = e; squares = squares c.args.x _ e }
 
--- PORT: a record of ['value', 'squares']
 pub returns : goal.returns
-returns c = let s = (goal.at.returns c).Start in elim (eq-or-lt_of_le c.if-b-gt2147483648.false) [
-  | inl e ↦ both _ _ (at s 2147483648 e of_minus_zero)
-  | inr l ↦ both _ _ (at s (bits_of s.args.x) refl (of_infinity (bits_of s.args.x) c.if-b-lt2139095040.false l))
-]
+returns c =
+    let s = (goal.at.returns c).Start in
+    let e : c.args.x ≡ sqrt_of c.args.x = elim (eq-or-lt_of_le c.if-b-gt2147483648.false) [
+      | inl q ↦ at s 2147483648 q of_minus_zero
+      | inr l ↦ at s (bits_of s.args.x) refl (of_infinity (bits_of s.args.x) c.if-b-lt2139095040.false l)
+    ] in
+    record { value = e; squares = squares c.args.x c.args.x e }
