@@ -1,4 +1,4 @@
-// Links the proved libraries, which `rt staticlib` has written.
+// Links the proved libraries, which `tools/library` has written.
 fn main() {
     let root = std::path::Path::new(env!("CARGO_MANIFEST_DIR")).join("../target/staticlib");
     println!("cargo:rustc-link-search=native={}", root.display());

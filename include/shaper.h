@@ -1,4 +1,4 @@
-/* The voice card's shaper, for C. Link libcard.a (`rt staticlib card`). A block's call has many arguments:
+/* The voice card's shaper, for C. Link libcard.a (`tools/library`). A block's call has many arguments:
  * shaper_block.h takes them as a struct that is filled in by name.
  *
  * A buffer is a pointer and a count of its numbers. Buffers by frame, spans and what lanes carry hold rows of `lanes`
