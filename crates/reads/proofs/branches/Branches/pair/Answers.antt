@@ -4,7 +4,6 @@ use Rattle.reads.specs.Reads.{push_pair}
 use Rattle.reads.proofs.Appends.{kind_made}
 use Rattle.reads.proofs.branches.Branches.pair.Goals as goal
 
--- PORT: parameters ['c', 'out']
 pub returns : goal.returns
 unfolding push_pair
 returns c out =
