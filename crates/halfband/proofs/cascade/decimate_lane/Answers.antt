@@ -26,8 +26,8 @@ loop-from_last-preserved c =
     let did = c.stage in
     let left = here.loop-from_last.from_last - 1 in (
       omega arith,
-      did.auto.1.1.1.1.1.0 ∙ here.loop-from_last.invariant.1,
-      did.auto.1.1.1.1.1.1.0 ∙ here.loop-from_last.invariant.2,
+      did.auto.buffer ∙ here.loop-from_last.invariant.1,
+      did.auto.state ∙ here.loop-from_last.invariant.2,
       λ w rest.
           here.loop-from_last.invariant.3 w
           (stages_then floats (design_of s.args.designs) _ _ _ _ (omega arith)

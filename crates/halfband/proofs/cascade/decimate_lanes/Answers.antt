@@ -19,8 +19,8 @@ loop-lane-preserved c =
     let here = (goal.at.loop-lane-preserved c).At-loop-lane in
     let did = c.decimate_lane in (
       omega arith,
-      did.auto.1.1.1.1.1.0 ∙ here.loop-lane.invariant.1,
-      did.auto.1.1.1.1.1.1.0 ∙ here.loop-lane.invariant.2,
+      did.auto.buffer ∙ here.loop-lane.invariant.1,
+      did.auto.state ∙ here.loop-lane.invariant.2,
       each_join (omega arith) (omega arith) here.loop-lane.invariant.3 did.ensures,
     )
 

@@ -4,11 +4,10 @@ use Rattle.halfband.proofs.RefusalLaws.{taken_of}
 use Rattle.halfband.proofs.DecimatedLaws.{turned_down_lem}
 use Rattle.halfband.proofs.cascade.process.Goals as goal
 
--- PORT: a record of ['taken', 'active_le_n']
 pub decimate_lanes-requires : goal.decimate_lanes-requires
 decimate_lanes-requires c =
-    rw c.stages_of.ensures
-    (taken_of _ 36 _ _ _ _ _ _ (sym c.refused-number.ensures ∙ c.if-number-ne0.false))
+    let went = taken_of c.args.designs 36 _ _ _ _ _ _ (sym c.refused-number.ensures ∙ c.if-number-ne0.false) in
+    record { taken = rw c.stages_of.ensures went.0; active_le_n = went.1 }
 
 pub returns : goal.returns
 returns c =
@@ -18,7 +17,7 @@ returns c =
       frames = refl;
       refused = λ h. absurd (h refl);
       lanes = λ e. rw c.stages_of.ensures at did.ensures;
-      lengths = (did.auto.1.1.1.1.1.0, did.auto.1.1.1.1.1.1.0);
+      lengths = (did.auto.buffer, did.auto.state);
     }
 
 pub returns-then-number-ne0 : goal.returns-then-number-ne0

@@ -1,5 +1,6 @@
 -- `cascade::stages_of` meets its contract.
 use borrow.Author.Tests.{ne_eqb}
+use native.Mathlib.Omega.{arith}
 use Rattle.halfband.specs.Halfband.{stages_of}
 use Rattle.halfband.proofs.cascade.stages_of.Goals as goal
 
@@ -17,6 +18,4 @@ returns-in-8 c = rw c.in-8.is
 
 pub returns-in_default : goal.returns-in_default
 unfolding stages_of
-returns-in_default c =
-    let rest = c.in_default.rest in
-    rw (ne_eqb _ 2 rest.0.0.1, ne_eqb _ 4 rest.0.1, ne_eqb _ 8 rest.1)
+returns-in_default c = rw (ne_eqb c.args.factor 2 (λ e. omega arith), ne_eqb c.args.factor 4 (λ e. omega arith), ne_eqb c.args.factor 8 (λ e. omega arith))

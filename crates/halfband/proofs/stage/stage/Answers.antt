@@ -5,6 +5,5 @@ use Rattle.halfband.proofs.stage.stage.Goals as goal
 
 pub returns : goal.returns
 returns c =
-    let s = c.before.before.before.before.before.before.before.before.before.before.before.before.before.before.before.before.before in
-    staged (sections_of s.args.design) _ _ _ _ _ _ _ _ _ _ s.requires.1.lane c.load-cells.ensures
+    staged (sections_of c.args.design) _ _ _ _ _ _ _ _ _ _ c.requires.1.lane c.load-cells.ensures
     c.run_known.ensures c.store.ensures
