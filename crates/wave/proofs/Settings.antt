@@ -12,7 +12,7 @@ use Rattle.wave.specs.declared.slots.Setting.{Setting}
 use Rattle.wave.specs.Slot.{level_of, shape_of}
 use Rattle.wave.specs.contracts.slots.Setting as SettingEnum
 
-abbrev Is : List ℕ → Setting → Type 0
+abbrev pub Is : List ℕ → Setting → Type 0
 Is ks setting = OneOf ks (tag_of SettingEnum.the_type setting)
 
 pub no_level : (mode : ℕ) (setting : Setting) (x : Float) → Is (0 ∷ 1 ∷ 2 ∷ []) setting → x ≡ level_of mode setting x

@@ -62,4 +62,4 @@ returns-in-32 c = rw c.in-32.is c.soft_saturate.ensures
 
 pub returns-in_default : goal.returns-in_default
 unfolding curve_of
-returns-in_default c = miss (Unit {0}) _ _ _ c.in_default.rest
+returns-in_default c = miss (Unit {0}) _ _ _ search

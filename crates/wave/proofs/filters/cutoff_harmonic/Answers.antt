@@ -1,4 +1,6 @@
 -- `wave::cutoff_harmonic` meets its contract.
+use native.Mathlib.Omega.{arith}
+use mathlib.Core.Path.{◌≡◌}
 use Rattle.modes.specs.Choice.{case_of}
 use Rattle.modes.proofs.Choice.{miss}
 use Rattle.wave.specs.Filter.{cutoff_harmonic}
@@ -10,4 +12,6 @@ returns-in-17 c = rw c.in-17.is c.exp2.ensures
 
 pub returns-in_default : goal.returns-in_default
 unfolding cutoff_harmonic
-returns-in_default c = rw (← miss (Unit {0}) _ _ _ c.in_default.rest) c.exp2-in_default.ensures
+returns-in_default c =
+    let other : Unit {0} × (c.args.mode ≡ 17 → ⊥) = (tt, λ e. omega arith) in
+    rw (← miss (Unit {0}) _ _ _ other) c.exp2-in_default.ensures

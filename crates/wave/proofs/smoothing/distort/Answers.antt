@@ -1,4 +1,6 @@
 -- `wave::distort` meets its contract.
+use native.Mathlib.Omega.{arith}
+use mathlib.Core.Path.{◌≡◌}
 use Rattle.modes.specs.Choice.{case_of}
 use Rattle.modes.proofs.Choice.{miss}
 use Rattle.floats.specs.Steps.{given}
@@ -11,4 +13,6 @@ returns-in-28 c = rw c.in-28.is c.blend_rectified.ensures
 
 pub returns-in_default : goal.returns-in_default
 unfolding distort_of curved
-returns-in_default c = rw (← miss (Unit {0}) _ _ _ c.in_default.rest, given c.drive.ensures) c.plain_curve.ensures
+returns-in_default c =
+    let other : Unit {0} × (c.args.mode ≡ 28 → ⊥) = (tt, λ e. omega arith) in
+    rw (← miss (Unit {0}) _ _ _ other, given c.drive.ensures) c.plain_curve.ensures

@@ -1,4 +1,6 @@
 -- `wave::gain` meets its contract.
+use native.Mathlib.Omega.{arith}
+use mathlib.Core.Path.{◌≡◌}
 use Rattle.modes.specs.Choice.{case_of}
 use Rattle.modes.proofs.Choice.{miss}
 use Rattle.wave.specs.Smooth.{gain_of}
@@ -10,4 +12,6 @@ returns-in-28 c = rw c.in-28.is
 
 pub returns-in_default : goal.returns-in_default
 unfolding gain_of
-returns-in_default c = rw (← miss (Unit {0}) _ _ _ c.in_default.rest) c.drive.ensures
+returns-in_default c =
+    let other : Unit {0} × (c.args.mode ≡ 28 → ⊥) = (tt, λ e. omega arith) in
+    rw (← miss (Unit {0}) _ _ _ other) c.drive.ensures

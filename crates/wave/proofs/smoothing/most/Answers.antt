@@ -14,4 +14,4 @@ returns-in-25 c = rw c.in-25.is
 
 pub returns-in_default : goal.returns-in_default
 unfolding most_of
-returns-in_default c = miss (Unit {0}) _ _ _ c.in_default.rest
+returns-in_default c = miss (Unit {0}) _ _ _ search
