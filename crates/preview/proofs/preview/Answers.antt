@@ -17,4 +17,4 @@ pub returns : goal.returns
 returns c =
     let d = (goal.at.returns c).Else-number-ne0 in
     let done = c.preview_taken.ensures in
-    taken _ _ _ _ _ _ _ _ (sym c.refused-number.ensures ∙ d.if-number-ne0.false) done.0 done.1
+    taken _ _ _ _ _ _ _ _ (sym c.refused-number.ensures ∙ d.if-number-ne0.false) done.value done.picture_after

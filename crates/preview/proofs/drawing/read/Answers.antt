@@ -11,7 +11,7 @@ returns c =
     let d = (goal.at.returns c).Else-map0-map1 in
     let p = c.requires in
     let off = or_false _ _ d.if-map0-map1.false in
-    plain_done _ _ _ _ _ _ _ _ _ _ _ (sym (set_on _ p.0) ∙ off.0) (sym (set_on _ p.1.0) ∙ off.1) c.read_plain.ensures
+    plain_done _ _ _ _ _ _ _ _ _ _ _ (sym (set_on _ p.set_1) ∙ off.0) (sym (set_on _ p.set_2) ∙ off.1) c.read_plain.ensures
 
 pub returns-then-map0-map1 : goal.returns-then-map0-map1
 returns-then-map0-map1 c = c.read_mapped.ensures

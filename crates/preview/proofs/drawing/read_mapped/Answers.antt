@@ -15,14 +15,14 @@ inside c = omega (arith, c.loop-i-test.true, c.loop-i.invariant.1, c.loop-i.inva
 pub word_at-word-requires : goal.word_at-word-requires
 word_at-word-requires c =
     let p = c.requires in
-    (omega (arith, p.1.1.1.1, c.loop-i.invariant.1), c.loop-i-test.true)
+    (omega (arith, p.in_bounds_3, c.loop-i.invariant.1), c.loop-i-test.true)
 
 pub point-requires : goal.point-requires
 point-requires c = let p = c.requires in record {
-      set_1 = p.0;
-      set_2 = p.1.0;
-      in_bounds_1 = p.1.1.0;
-      in_bounds_2 = p.1.1.1.0;
+      set_1 = p.set_1;
+      set_2 = p.set_2;
+      in_bounds_1 = p.in_bounds_1;
+      in_bounds_2 = p.in_bounds_2;
     }
 
 pub loop-i-preserved : goal.loop-i-preserved

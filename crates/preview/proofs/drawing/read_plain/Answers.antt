@@ -16,7 +16,7 @@ inside c = omega (arith, c.loop-i-test.true, c.loop-i.invariant.1, c.loop-i.inva
 pub word_at-word-requires : goal.word_at-word-requires
 word_at-word-requires c =
     let p = c.requires in
-    (omega (arith, p.1, c.loop-i.invariant.1), c.loop-i-test.true)
+    (omega (arith, p.fact_2, c.loop-i.invariant.1), c.loop-i-test.true)
 
 pub loop-i-preserved : goal.loop-i-preserved
 loop-i-preserved c =
