@@ -1,15 +1,23 @@
 -- `voice::in_phase` meets its contract.
-use mathlib.Core.Path.{refl}
-use mathlib.Core.Bool.{true, false}
-use mathlib.Core.List.{[], ◌∷◌}
-use Rattle.modes.proofs.Arms.{arm, stage_cases}
+use mathlib.Core.Path.{◌≡◌, refl, sym, ap, ◌∙◌}
+use mathlib.Core.Bool.{false}
+use Rattle.modes.specs.Says.{stage_says}
+use Rattle.modes.specs.declared.shaping.StageFact.{StageFact}
 use Rattle.voice.specs.PhaseRun.{says_phase, in_phase}
 use Rattle.voice.proofs.phase_run.in_phase.Goals as goal
 
+-- every answer but Phase
+others : (r : StageFact) → (r ≡ StageFact.Phase → ⊥) → false ≡ says_phase (stage_says r)
+unfolding stage_says
+others StageFact.Off n = refl
+others StageFact.Phase n = absurd (n refl)
+others StageFact.Wave n = refl
+others StageFact.Refused n = refl
+
 pub returns-in-Phase : goal.returns-in-Phase
-unfolding in_phase
-returns-in-Phase c = arm stage_cases says_phase true (1 ∷ []) refl _ c.in-Phase-1.is c.stage-stage.ensures
+unfolding in_phase stage_says
+returns-in-Phase c = ap (λ r. says_phase (stage_says r)) (sym c.in-Phase.is) ∙ ap says_phase c.stage-stage.ensures
 
 pub returns-in_default : goal.returns-in_default
 unfolding in_phase
-returns-in_default c = arm stage_cases says_phase false (0 ∷ 2 ∷ 3 ∷ []) refl _ c.in_default.is c.stage-stage.ensures
+returns-in_default c = others _ c.in_default.not-Phase ∙ ap says_phase c.stage-stage.ensures

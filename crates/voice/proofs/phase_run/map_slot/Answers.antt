@@ -5,11 +5,12 @@ use Rattle.voice.specs.PhaseRun.{map_slot}
 use Rattle.voice.proofs.Powers.{phase_power}
 use Rattle.voice.proofs.phase_run.map_slot.Goals as goal
 
--- PORT: a record of ['fact_1', 'fact_2', 'fact_3']
 pub apply_with-requires : goal.apply_with-requires
-apply_with-requires c =
-    let p = c.requires in
-    (phase_power _ _ _ (sym c.in_phase.ensures ∙ c.if-in_phase.true) p.0, p.1)
+apply_with-requires c = record {
+      fact_1 = phase_power _ _ _ (sym c.in_phase.ensures ∙ c.if-in_phase.true) c.requires.fact_1;
+      fact_2 = c.requires.fact_2;
+      fact_3 = c.requires.fact_3;
+    }
 
 pub returns-then-in_phase : goal.returns-then-in_phase
 unfolding map_slot

@@ -6,23 +6,21 @@ use Rattle.voice.proofs.sum_run.sum_list.Goals as goal
 
 pub mapped_sum-x-requires : goal.mapped_sum-x-requires
 mapped_sum-x-requires c =
-    let p = c.requires in
-    let on = p.1.1.1 in record {
-      power0_value_1 = (λ e. phase_power _ _ _ (sym on.0 ∙ e) on.1.1.0);
-      power0_value_2 = (λ e. phase_power _ _ _ (sym on.1.0 ∙ e) on.1.1.1);
-      in_bounds_1 = p.1.0;
-      in_bounds_2 = p.1.1.0;
+    let p = c.requires in record {
+      power0_value_1 = (λ e. phase_power _ _ _ (sym p.on0_value_1 ∙ e) p.power0_value_1);
+      power0_value_2 = (λ e. phase_power _ _ _ (sym p.on0_value_2 ∙ e) p.power0_value_2);
+      in_bounds_1 = p.powers_value_2;
+      in_bounds_2 = p.powers_value_3;
     }
 
 pub returns : goal.returns
 returns c =
-    let p = c.requires in
     rw (
       c.mapped_sum-x.ensures,
       c.add_words.ensures,
       c.slide_of-slide0.ensures,
       c.slide_of-slide1.ensures,
       c.half_width-half.ensures,
-      p.1.1.1.0,
-      p.1.1.1.1.0,
+      c.requires.on0_value_1,
+      c.requires.on0_value_2,
     ) (list_summed _ _ _ _ _ _ _ _ _ _ _ _ _ _ _)

@@ -6,11 +6,17 @@ use Rattle.voice.specs.PhaseRun.{reads_of}
 use Rattle.voice.proofs.SumRunLaws.{none_summed}
 use Rattle.voice.proofs.sum_run.sum_of.Goals as goal
 
--- PORT: a record of ['powers_value_1', 'powers_value_2', 'powers_value_3', 'on0_value_1', 'on0_value_2', 'power0_value_1', 'power0_value_2']
 pub sum_list-requires : goal.sum_list-requires
 sum_list-requires c =
-    let p = c.requires in
-    (p.0, (p.1.0, (p.1.1.0, (c.in_phase-on0.ensures, (c.in_phase-on1.ensures, p.1.1.1)))))
+    let p = c.requires in record {
+      powers_value_1 = p.powers_value_1;
+      powers_value_2 = p.powers_value_2;
+      powers_value_3 = p.powers_value_3;
+      on0_value_1 = c.in_phase-on0.ensures;
+      on0_value_2 = c.in_phase-on1.ensures;
+      power0_value_1 = p.power0_value_1;
+      power0_value_2 = p.power0_value_2;
+    }
 
 pub returns-then-on0-on1 : goal.returns-then-on0-on1
 unfolding reads_of

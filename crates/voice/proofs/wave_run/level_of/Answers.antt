@@ -5,16 +5,14 @@ use Rattle.voice.proofs.NoState.{no_state}
 use Rattle.voice.proofs.wave_run.level_of.Goals as goal
 use Rattle.voice.proofs.wave_run.level_of.Goals.{Start}
 
--- PORT: parameters ['c', 'sk', 'increment', 'state']
 pub returns-then-in_wave-control : goal.returns-then-in_wave-control
 unfolding shape_of
-returns-then-in_wave-control c sk increment state =
+returns-then-in_wave-control c = λ sk increment state.
     let s = (goal.at.returns-then-in_wave-control c).Start in
     rw (c.level.ensures, no_state sk s.args.slot s.args.control increment _ state s.requires, ← c.in_wave.ensures, taken _ _ c.if-in_wave-control.true)
 
--- PORT: parameters ['c', 'sk', 'increment', 'state']
 pub returns : goal.returns
 unfolding shape_of
-returns c sk increment state =
+returns c = λ sk increment state.
     let s = (goal.at.returns c).Start in
     rw (no_state sk s.args.slot s.args.control increment _ state s.requires, ← c.in_wave.ensures, left _ _ c.if-in_wave-control.false)

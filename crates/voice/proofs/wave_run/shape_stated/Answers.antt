@@ -1,17 +1,16 @@
 -- `voice::shape_stated` meets its contract: its steps are the definition's.
 use mathlib.Core.Path.{◌≡◌, sym, ◌∙◌}
-use mathlib.Core.Logic.{⊎_elim}
-use Rattle.floats.specs.Steps.{given, taken, left}
+use Rattle.floats.specs.Steps.{if◌then◌else◌, given, taken, left}
 use Rattle.voice.specs.WaveRun.{tracks, shaped_of}
 use Rattle.voice.proofs.wave_run.shape_stated.Goals as goal
-use Rattle.voice.proofs.wave_run.shape_stated.Goals.{Joined-tracks}
+use Rattle.voice.proofs.wave_run.shape_stated.Goals.{Joined-tracks, then-tracks, else-tracks}
 
-kept : (c : Joined-tracks) → let a = c.args in c.if-tracks.auto ≡ (if tracks a.slot0.mode a.slot1.mode then a.x else a.last)
+kept : (c : Joined-tracks) → let a = c.args in c.if-tracks.kept ≡ (if tracks a.slot0.mode a.slot1.mode then a.x else a.last)
 kept c =
-    ⊎_elim
-    (λ way. way.1 ∙ sym (taken _ _ (sym c.tracks.ensures ∙ way.0.taken)))
-    (λ way. way.1 ∙ sym (left _ _ (sym c.tracks.ensures ∙ way.0.left)))
-    c.if-tracks.branch
+    elim c.if-tracks.branch [
+      then-tracks w ↦ w.kept-is ∙ sym (taken _ _ (sym c.tracks.ensures ∙ w.if-tracks.true))
+    | else-tracks w ↦ w.kept-is ∙ sym (left _ _ (sym c.tracks.ensures ∙ w.if-tracks.false))
+    ]
 
 pub returns : goal.returns
 unfolding shaped_of
