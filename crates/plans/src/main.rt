@@ -2,11 +2,13 @@
 // active lanes, factor, frames and the three designs' counts), and writes a table of what each block needs.
 #![tactic(auto)]
 
+mod digits;
 mod planning;
 mod row;
 mod table;
 
-use libc::{STDIN_FILENO, STDOUT_FILENO};
+use std::io;
+use std::io::{Print, Read, Stdin, Stdout};
 use table::{print_heading, print_line};
 use text::{Line, left_over, line_bytes, no_line, with_byte};
 
@@ -24,41 +26,46 @@ struct Input {
 }
 
 // A byte of the input.
-fn take_byte(buffer: &mut [u8; 255], input: Input, byte: u8) -> Input {
+fn take_byte(out: Stdout, buffer: &mut [u8; 255], input: Input, byte: u8) -> io::Result<Input> {
     let lines = input.lines;
     let before = input.line;
     if LINES <= lines {
-        return Input {
+        return Ok(Input {
             line: before,
             lines,
             more: true,
             ended: true,
-        };
+        });
     }
     let line = with_byte(buffer, before, byte);
     if !line.ended {
-        return Input {
+        return Ok(Input {
             line,
             lines,
             more: false,
             ended: false,
-        };
+        });
     }
-    print_line(lines + 1, line_bytes(buffer, line));
-    Input {
+    print_line(out, lines + 1, line_bytes(buffer, line))?;
+    Ok(Input {
         line,
         lines: lines + 1,
         more: false,
         ended: false,
-    }
+    })
 }
 
-fn take_bytes(buffer: &mut [u8; 255], input: Input, bytes: &[u8]) -> Input {
+fn take_bytes(
+    out: Stdout,
+    buffer: &mut [u8; 255],
+    input: Input,
+    bytes: &[u8],
+) -> io::Result<Input> {
     let mut after = input;
     for i in 0..bytes.len() {
-        after = take_byte(buffer, after, bytes[i]);
+        after = take_byte(out, buffer, after, bytes[i])?;
     }
-    after
+    Ok(after)
 }
 
 // No more is to come.
@@ -73,46 +80,43 @@ fn ended(input: Input) -> Input {
 }
 
 // Reads once. An input that cannot be read ends there, and what came of its last line is dropped.
-fn read_some(buffer: &mut [u8; 255], input: Input) -> Input {
-    let mut bytes = io::buffer();
-    let got = libc::read(STDIN_FILENO, &mut bytes);
-    if got < 0 {
-        io::write_all(STDOUT_FILENO, b"the input cannot be read any further\n");
-        return Input {
-            line: no_line(),
-            lines: input.lines,
-            more: false,
-            ended: true,
-        };
+fn read_some(rt: &HostRuntime, buffer: &mut [u8; 255], input: Input) -> io::Result<Input> {
+    let mut bytes = [0u8; 4096];
+    match rt.stdin().read(&mut bytes) {
+        Ok(0) => Ok(ended(input)),
+        Ok(n) => take_bytes(rt.stdout(), buffer, input, &bytes[..n]),
+        Err(_) => {
+            rt.stdout()
+                .write_all(b"the input cannot be read any further\n")?;
+            Ok(Input {
+                line: no_line(),
+                lines: input.lines,
+                more: false,
+                ended: true,
+            })
+        }
     }
-    if got == 0 {
-        return ended(input);
-    }
-    let n = io::count(got, &bytes);
-    take_bytes(buffer, input, &bytes[..n])
 }
 
 // What is left at the input's end.
-fn finish(buffer: &[u8; 255], input: Input) {
+fn finish(out: Stdout, buffer: &[u8; 255], input: Input) -> io::Result<()> {
     let line = input.line;
     let lines = input.lines;
     if lines < LINES {
         if left_over(line) {
-            print_line(lines + 1, line_bytes(buffer, line));
+            print_line(out, lines + 1, line_bytes(buffer, line))?;
         }
     }
     if input.more {
-        io::write_all(
-            STDOUT_FILENO,
-            b"the input has more than 1000 lines: the rest was not read\n",
-        );
+        out.write_all(b"the input has more than 1000 lines: the rest was not read\n")?;
     }
+    Ok(())
 }
 
 // A proved loop has to end, and nothing says that an input does. So the loop counts its turns down, from a number
 // that no run uses up.
-fn main() {
-    print_heading();
+fn main(rt: HostRuntime) -> io::Result<()> {
+    print_heading(rt.stdout())?;
     let mut buffer = [0u8; 255];
     let mut input = Input {
         line: no_line(),
@@ -123,10 +127,10 @@ fn main() {
     let mut turns = u64::MAX;
     while turns > 0 {
         turns -= 1;
-        input = read_some(&mut buffer, input);
+        input = read_some(&rt, &mut buffer, input)?;
         if input.ended {
             break;
         }
     }
-    finish(&buffer, input);
+    finish(rt.stdout(), &buffer, input)
 }

@@ -3,7 +3,9 @@ ghost use Rattle.std.specs.Prelude.{◌≡◌, ◌+◌, ◌≤◌, length};
 ghost use Rattle.std.proofs.Math.Seq.{paste};
 ghost use Rattle.plans.specs.Row.{blanks, put_left, end_left, PutRight};
 
-use libc::STDOUT_FILENO;
+use crate::digits::decimal;
+use std::io;
+use std::io::{Print, Stdout};
 
 pub fn empty() -> [u8; 120]
     ensures { result ≡ blanks }
@@ -44,16 +46,17 @@ pub fn right(row: &mut [u8; 120], end: usize, n: u64)
     ensures { PutRight row.old end n row.new }
 {
     let mut text = [0u8; 20];
-    let k = io::decimal(n, &mut text);
+    let k = decimal(n, &mut text);
     if k <= end {
         left(row, end - k, &text[..k]);
     }
 }
 
 // Writes the row's first bytes.
-pub fn print(row: &[u8; 120], length: usize) {
+pub fn print(out: Stdout, row: &[u8; 120], length: usize) -> io::Result<()> {
     let whole: &[u8] = row;
     if length <= whole.len() {
-        io::write_all(STDOUT_FILENO, &whole[..length]);
+        out.write_all(&whole[..length])?;
     }
+    Ok(())
 }

@@ -4,18 +4,17 @@ ghost use Rattle.plan.specs.Plan.{floats_of};
 
 use crate::planning::{LinePlan, in_order, plans_of};
 use crate::row;
-use libc::STDOUT_FILENO;
 use plan::{BlockNumbers, Plan, floats_of};
+use std::io;
+use std::io::{Print, Stdout};
 
-pub fn print_heading() {
-    io::write_all(
-        STDOUT_FILENO,
+pub fn print_heading(out: Stdout) -> io::Result<()> {
+    out.write_all(
         b"A block made as one range: work, decimator state, filter pairs, FM carry, last (not output, spans, what is read)\n",
-    );
-    io::write_all(
-        STDOUT_FILENO,
+    )?;
+    out.write_all(
         b"line lanes active factor frames    counts            work state pairs  fm last     sum            most reads    steps\n",
-    );
+    )
 }
 
 // What a line asks for.
@@ -66,19 +65,19 @@ fn put_counts(row: &mut [u8; 120], p: Plan) -> usize {
 }
 
 // Two rows: floats above bytes, and the block's reads and steps above one host frame's.
-fn print_planned(line: u64, p: LinePlan) {
+fn print_planned(out: Stdout, line: u64, p: LinePlan) -> io::Result<()> {
     let mut row = row::empty();
     row::right(&mut row, 4, line);
     put_numbers(&mut row, p.numbers);
     put_floats(&mut row, p.block);
     row::left(&mut row, 88, b"block");
     let n = put_counts(&mut row, p.block);
-    row::print(&row, n);
+    row::print(out, &row, n)?;
     let mut below = row::empty();
     put_bytes(&mut below, p.block);
     row::left(&mut below, 88, b"host frame");
     let m = put_counts(&mut below, p.frame);
-    row::print(&below, m);
+    row::print(out, &below, m)
 }
 
 // A refusal's meaning, in the header's words as far as a plan can meet them.
@@ -96,34 +95,34 @@ fn put_meaning(row: &mut [u8; 120], number: u32) -> usize {
     }
 }
 
-fn print_refused(line: u64, number: u32) {
+fn print_refused(out: Stdout, line: u64, number: u32) -> io::Result<()> {
     let mut row = row::empty();
     row::right(&mut row, 4, line);
     row::left(&mut row, 6, b"refused");
     row::right(&mut row, 15, number as u64);
     let n = put_meaning(&mut row, number);
-    row::print(&row, n);
+    row::print(out, &row, n)
 }
 
-fn print_bad(line: u64) {
+fn print_bad(out: Stdout, line: u64) -> io::Result<()> {
     let mut row = row::empty();
     row::right(&mut row, 4, line);
     let n = row::left(&mut row, 6, b"not seven decimal numbers below 4294967296\n");
-    row::print(&row, n);
+    row::print(out, &row, n)
 }
 
 // The rows for a line.
-pub fn print_line(line: u64, text: &[u8]) {
+pub fn print_line(out: Stdout, line: u64, text: &[u8]) -> io::Result<()> {
     let seven = text::seven_of(text);
     if !seven.good {
-        return print_bad(line);
+        return print_bad(out, line);
     }
     let values = seven.values;
     let p = plans_of(in_order(values));
     let number = p.block.number;
     if number == 0 {
-        print_planned(line, p);
+        print_planned(out, line, p)
     } else {
-        print_refused(line, number);
+        print_refused(out, line, number)
     }
 }

@@ -1,4 +1,3 @@
-
 use Rattle.plans.proofs.main.Given as goal
 
 abbrev pub invariant-loop-turns : goal.invariant-loop-turns
