@@ -58,4 +58,4 @@ returns-in-14 c = rw c.in-14.is
 
 pub returns-in_default : goal.returns-in_default
 unfolding slope_of
-returns-in_default c = miss (Unit {0}) _ _ _ c.in_default.rest
+returns-in_default c = miss (Unit {0}) _ _ _ (search)

@@ -14,4 +14,4 @@ returns-in-7 c = rw c.in-7.is
 
 pub returns-in_default : goal.returns-in_default
 unfolding lean_strength
-returns-in_default c = miss (Unit {0}) _ _ _ c.in_default.rest
+returns-in_default c = miss (Unit {0}) _ _ _ (search)

@@ -24,6 +24,5 @@ returns-in-3 c = rw c.in-3.is
 pub returns-in_default : goal.returns-in_default
 unfolding push_of
 returns-in_default c =
-    let m = c.in_default in
-    let h : 4 ≤ c.args.self.count = omega (arith, m.not-3, m.not-2, m.not-1, m.not-0) in
+    let h : 4 ≤ c.args.self.count = omega arith in
     rw (le-ltb _ _ h)
