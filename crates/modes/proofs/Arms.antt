@@ -67,3 +67,13 @@ flags = true ∷ false ∷ []
 pub flag_cases : Cases flag_says (tag_of FlagEnum.the_type) flags
 unfolding flag_says
 flag_cases = record { said = elim [ FlagFact.Yes ↦ refl | FlagFact.No ↦ refl | FlagFact.Refused ↦ refl ] }
+
+-- the arm of one case, which says what r is, and the arm `_` behind the case Yes, which says what r isn't
+pub case_arm : {E A B : Type 0} (says : E → Fact A) (f : Fact A → B) {r k : E} {a : Fact A} → r ≡ k → says r ≡ a → f (says k) ≡ f a
+case_arm says f e h = sym (ap (λ x. f (says x)) e) ∙ ap f h
+
+pub not_yes_arm : {B : Type 0} (f : Fact Bool → B) (v : B) → f (given false) ≡ v → f (refused 1) ≡ v → (r : FlagFact) {a : Fact Bool} → (r ≡ FlagFact.Yes → ⊥) → flag_says r ≡ a → v ≡ f a
+unfolding flag_says
+not_yes_arm f v p q FlagFact.Yes n h = absurd (n refl)
+not_yes_arm f v p q FlagFact.No n h = sym p ∙ ap f h
+not_yes_arm f v p q FlagFact.Refused n h = sym q ∙ ap f h

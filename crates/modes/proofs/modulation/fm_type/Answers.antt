@@ -1,4 +1,5 @@
 -- `modes::fm_type` meets its contract.
+use Rattle.std.specs.Prelude.{◌≤◌}
 use native.Mathlib.Omega.{arith}
 use mathlib.Core.Path.{refl}
 use mathlib.Core.Option.{some, none}
@@ -23,7 +24,7 @@ returns-in-45-to-50 c = range fm_type_of (given (some linear)) 45 51 (unfold fm_
 
 pub returns-in_default : goal.returns-in_default
 unfolding fm_type_says
-returns-in_default c = unfold fm_type_of in beyond (λ (r : Row). r.fm_type) c.if-mode-lt70.false
+returns-in_default c = let h : 70 ≤ c.args.mode = omega arith in unfold fm_type_of in beyond (λ (r : Row). r.fm_type) h
 
 pub returns-in-0-to-32 : goal.returns-in-0-to-32
 unfolding fm_type_says

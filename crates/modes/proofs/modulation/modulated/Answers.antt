@@ -1,4 +1,5 @@
 -- `modes::modulated` meets its contract.
+use Rattle.std.specs.Prelude.{◌≤◌}
 use native.Mathlib.Omega.{arith}
 use mathlib.Core.Path.{refl}
 use mathlib.Core.Option.{some, none}
@@ -39,4 +40,4 @@ returns-in-64-to-69 c = range modulated_of (given (some ring)) 64 70 (unfold mod
 
 pub returns-in_default : goal.returns-in_default
 unfolding modulated_says
-returns-in_default c = unfold modulated_of in beyond (λ (r : Row). r.modulated) c.if-mode-lt70.false
+returns-in_default c = let h : 70 ≤ c.args.mode = omega arith in unfold modulated_of in beyond (λ (r : Row). r.modulated) h

@@ -49,4 +49,4 @@ returns-in-0-to-32 c = range source_of (given none) 0 33 (unfold source_of in re
 
 pub returns-in_default : goal.returns-in_default
 unfolding source_says
-returns-in_default c = unfold source_of in beyond (λ (r : Row). r.source) (past ((57 ∷ []) ∷ reads 5 ∷ reads 4 ∷ reads 3 ∷ reads 2 ∷ reads 1 ∷ reads 0 ∷ []) 33 70 refl c.in_default-1.rest c.if-mode-lt33.false)
+returns-in_default c = unfold source_of in beyond (λ (r : Row). r.source) (past ((57 ∷ []) ∷ reads 5 ∷ reads 4 ∷ reads 3 ∷ reads 2 ∷ reads 1 ∷ reads 0 ∷ []) 33 70 refl c.in_default.in_default-own.rest (omega arith))

@@ -1,4 +1,5 @@
 -- `modes::distortion` meets its contract.
+use Rattle.std.specs.Prelude.{◌≤◌}
 use native.Mathlib.Omega.{arith}
 use mathlib.Core.Path.{refl}
 use mathlib.Core.Bool.{true, false}
@@ -15,7 +16,7 @@ returns-in-19-to-32 c = range distortion_of (given true) 19 33 (unfold distortio
 
 pub returns-in_default : goal.returns-in_default
 unfolding flag_says
-returns-in_default c = unfold distortion_of in beyond (λ (r : Row). r.distortion) c.if-mode-lt70.false
+returns-in_default c = let h : 70 ≤ c.args.mode = omega arith in unfold distortion_of in beyond (λ (r : Row). r.distortion) h
 
 pub returns-in-0-to-18 : goal.returns-in-0-to-18
 unfolding flag_says

@@ -1,4 +1,5 @@
 -- `modes::stage` meets its contract.
+use Rattle.std.specs.Prelude.{◌≤◌}
 use native.Mathlib.Omega.{arith}
 use mathlib.Core.Path.{refl}
 use mathlib.Core.List.{[], ◌∷◌}
@@ -15,7 +16,7 @@ returns-in-0 c = keys stage_of (given off) (0 ∷ []) (unfold stage_of in refl) 
 
 pub returns-in_default : goal.returns-in_default
 unfolding stage_says
-returns-in_default c = unfold stage_of in beyond (λ (r : Row). r.stage) c.if-mode-lt70.false
+returns-in_default c = let h : 70 ≤ c.args.mode = omega arith in unfold stage_of in beyond (λ (r : Row). r.stage) h
 
 pub returns-in-17-to-32 : goal.returns-in-17-to-32
 unfolding stage_says
