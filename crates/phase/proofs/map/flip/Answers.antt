@@ -20,7 +20,6 @@ pub weighted-requires : goal.weighted-requires
 unfolding flip_map
 weighted-requires c = search rules
 
--- PORT: parameters ['c', 'out']
 pub returns : goal.returns
 unfolding flip_map
 returns c out = search (steps, c.weighted.ensures) depth 12

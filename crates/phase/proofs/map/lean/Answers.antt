@@ -28,7 +28,6 @@ pub one-requires : goal.one-requires
 unfolding lean_map
 one-requires c = search rules
 
--- PORT: parameters ['c', 'out']
 pub returns : goal.returns
 unfolding lean_map
 returns c out = search (steps, c.one.ensures) depth 12

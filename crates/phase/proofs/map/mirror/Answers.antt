@@ -3,7 +3,6 @@ use Rattle.floats.specs.Steps.{given, step}
 use Rattle.phase.specs.Map.{mirror_map}
 use Rattle.phase.proofs.map.mirror.Goals as goal
 
--- PORT: parameters ['c', 'out']
 pub returns : goal.returns
 unfolding mirror_map
 returns c out =

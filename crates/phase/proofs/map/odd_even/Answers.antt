@@ -20,7 +20,6 @@ pub both-requires : goal.both-requires
 unfolding odd_even_map
 both-requires c = search rules
 
--- PORT: parameters ['c', 'out']
 pub returns : goal.returns
 unfolding odd_even_map
 returns c out = search (steps, c.both.ensures) depth 12

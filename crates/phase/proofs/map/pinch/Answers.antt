@@ -3,7 +3,6 @@ use Rattle.floats.specs.Steps.{given, step}
 use Rattle.phase.specs.Map.{pinch_map}
 use Rattle.phase.proofs.map.pinch.Goals as goal
 
--- PORT: parameters ['c', 'out']
 pub returns : goal.returns
 unfolding pinch_map
 returns c out =

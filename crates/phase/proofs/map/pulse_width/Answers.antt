@@ -24,7 +24,6 @@ pub pair-requires : goal.pair-requires
 unfolding pulse_width_map
 pair-requires c = search rules
 
--- PORT: parameters ['c', 'out']
 pub returns : goal.returns
 unfolding pulse_width_map
 returns c out = search (steps, c.pair.ensures) depth 12

@@ -3,7 +3,6 @@ use Rattle.floats.specs.Steps.{steps}
 use Rattle.phase.specs.Map.{remap_mirrored_map}
 use Rattle.phase.proofs.map.remap_mirrored.Goals as goal
 
--- PORT: parameters ['c', 'out']
 pub returns : goal.returns
 unfolding remap_mirrored_map
 returns c out =

@@ -24,7 +24,6 @@ pub one-requires : goal.one-requires
 unfolding remap_quad_map
 one-requires c = search rules
 
--- PORT: parameters ['c', 'out']
 pub returns : goal.returns
 unfolding remap_quad_map
 returns c out = search (steps, c.one.ensures) depth 12

@@ -3,7 +3,6 @@ use Rattle.floats.specs.Steps.{given}
 use Rattle.phase.specs.Map.{sync_map}
 use Rattle.phase.proofs.map.sync.Goals as goal
 
--- PORT: parameters ['c', 'out']
 pub returns : goal.returns
 unfolding sync_map
 returns c out =

@@ -14,4 +14,4 @@ returns-in-15 c = rw c.in-15.is c.step_count.ensures
 
 pub returns-in_default : goal.returns-in_default
 unfolding map_power
-returns-in_default c = miss (Unit {0}) _ _ _ c.in_default.rest
+returns-in_default c = miss (Unit {0}) _ _ _ (search)

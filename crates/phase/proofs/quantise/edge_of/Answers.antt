@@ -6,7 +6,7 @@ use Rattle.phase.proofs.quantise.edge_of.Goals as goal
 pub returns : goal.returns
 unfolding edge_of
 returns c =
-    rw (given c.signed-t.ensures, given c.floor.ensures, step, step, given c.Line-of.ensures, step, given c.abs.ensures, given c.abs-2.ensures, given c.above-at_end.ensures, given c.pick-distance.ensures, given c.pick-left.ensures, given c.pick-right.ensures, given c.pick.ensures)
+    rw (given c.signed-t.ensures, given c.floor.ensures, step, step, given c.line_of-line.ensures, step, given c.abs.ensures, given c.abs-2.ensures, given c.above-at_end.ensures, given c.pick-distance.ensures, given c.pick-left.ensures, given c.pick-right.ensures, given c.pick.ensures)
 
 pub signed-t-requires : goal.signed-t-requires
 signed-t-requires c = tt

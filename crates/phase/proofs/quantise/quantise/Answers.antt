@@ -28,7 +28,6 @@ pub pair-requires : goal.pair-requires
 unfolding quantise_of
 pair-requires c = search rules
 
--- PORT: parameters ['c', 'out']
 pub returns : goal.returns
 unfolding quantise_of
 returns c out = search (steps, c.pair.ensures) depth 12

@@ -9,12 +9,10 @@ map-requires c = record {
       fact_2 = c.requires.fact_2;
     }
 
--- PORT: parameters ['c', 'out']
 pub returns-then-on : goal.returns-then-on
 unfolding map_if
 returns-then-on c out = rw (taken _ _ c.if-on.true) (c.map.ensures out)
 
--- PORT: parameters ['c', 'out']
 pub returns : goal.returns
 unfolding map_if
 returns c out = rw (left _ _ c.if-on.false) (c.one.ensures out)
