@@ -6,7 +6,7 @@ use Rattle.render.proofs.drives.drive_at.Goals as goal
 
 pub returns-then-modulation-eq0 : goal.returns-then-modulation-eq0
 unfolding drive_at amount_at
-returns-then-modulation-eq0 c = rw (lent_none _ _ _ _ c.if-modulation-eq0.true) c.requires.powers_value_2.0
+returns-then-modulation-eq0 c = rw (lent_none _ _ _ _ c.if-modulation-eq0.true) c.requires.powers_value_2
 
 pub returns : goal.returns
 unfolding drive_at

@@ -5,7 +5,7 @@ use native.Mathlib.Omega.{arith}
 use lib.ListN.{length, length-set}
 use Rattle.render.proofs.PlainLaws.{reads_none, reads_more, word_in, word_near, work_in, work_near}
 use Rattle.render.proofs.plain.read_lane.Goals as goal
-use Rattle.render.proofs.plain.read_lane.Goals.{After-place-at, After-place-to, At-loop-k, Start}
+use Rattle.render.proofs.plain.read_lane.Goals.{After-place-at, After-place-to}
 
 read-near : (c : After-place-at) → c.place-at.result < 2097152
 read-near c = omega (arith, c.place-at.ensures, word_near c.requires c.loop-k.k c.loop-k-test.true)
@@ -31,7 +31,7 @@ place-to-requires c = let p = c.requires in (omega (arith, p.frames), p.inside, 
 
 pub loop-k-preserved : goal.loop-k-preserved
 loop-k-preserved c =
-    let l = (goal.at.loop-k-preserved c).At-loop-k in (
+    let l = c in (
       omega (arith, c.loop-k-test.true),
       rw length-set l.loop-k.invariant.1,
       rw c.place-to.ensures
