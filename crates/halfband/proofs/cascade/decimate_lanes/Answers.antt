@@ -1,6 +1,5 @@
 -- `cascade::decimate_lanes` meets its contract.
 use mathlib.Core.Path.{◌≡◌, refl, ◌∙◌}
-use Prim.Native.Nat.{◌-◌}
 use native.Mathlib.Omega.{arith}
 use Rattle.grid.proofs.EachLaws.{each_none, each_join}
 use Rattle.halfband.proofs.cascade.decimate_lanes.Goals as goal

@@ -1,6 +1,5 @@
 -- `design::design_at` meets its contract.
 use mathlib.Core.Path.{refl}
-use Prim.Native.Nat.{◌-◌}
 use native.Mathlib.Omega.{arith}
 use Rattle.halfband.proofs.DesignLaws.{copied}
 use Rattle.halfband.proofs.FillLaws.{filled_none, filled_more}

@@ -1,5 +1,4 @@
 -- `stage::frame` meets its contract.
-use Prim.Native.Nat.{◌-◌}
 use native.Mathlib.Omega.{arith}
 use Rattle.halfband.proofs.ChainLaws.{linked_none, linked_more, framed}
 use Rattle.halfband.proofs.stage.frame.Goals as goal
