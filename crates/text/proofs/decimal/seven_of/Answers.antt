@@ -1,7 +1,6 @@
 -- `text::decimal::seven_of` meets its contract: the scan of the bytes so far, and what a scan of all bytes finds.
 --
 use mathlib.Core.Path.{◌∙◌, ap}
-use Prim.Native.Nat.{◌-◌}
 use native.Mathlib.Omega.{arith}
 use Rattle.text.specs.Scan.{at_end}
 use Rattle.text.proofs.ScanLaws.{scanned_none, scanned_more, scanned_all}
