@@ -7,18 +7,16 @@ use Rattle.floats.specs.Steps.{taken, left}
 use Rattle.controls.specs.Controls.{source_at}
 use Rattle.controls.proofs.LentLaws.{row_held, row_read}
 use Rattle.controls.proofs.source_at.Goals as goal
-use Rattle.controls.proofs.source_at.Goals.{After-place-at, Start}
+use Rattle.controls.proofs.source_at.Goals.{After-place-at}
 
 at_in : (c : After-place-at) → c.place-at.result < length c.args.source.now
 at_in c =
-    let s = c in
-    rw c.place-at.ensures (row_held _ _ _ _ _ s.requires.fact_1.inside s.requires.fact_1.row s.requires.fact_2)
+    rw c.place-at.ensures (row_held _ _ _ _ _ c.requires.fact_1.inside c.requires.fact_1.row c.requires.fact_2)
 
 pub returns-then-factor-eq1 : goal.returns-then-factor-eq1
 unfolding source_at
 returns-then-factor-eq1 c =
-    let s = (goal.at.returns-then-factor-eq1 c).Start in
-    rw (taken _ _ (eq-eqb _ _ c.if-factor-eq1.true), row_read _ _ _ _ _ s.requires.fact_1.row, c.place-at.ensures)
+    rw (taken _ _ (eq-eqb _ _ c.if-factor-eq1.true), row_read _ _ _ _ _ c.requires.fact_1.row, c.place-at.ensures)
 
 pub returns : goal.returns
 unfolding source_at
