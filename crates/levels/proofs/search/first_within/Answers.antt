@@ -10,12 +10,12 @@ use Rattle.levels.proofs.search.first_within.Goals as goal
 pub returns-then-is_within : goal.returns-then-is_within
 returns-then-is_within c =
     let l = c.loop-i in
-    found_least _ part_length _ (omega arith) l.invariant.1 (sym c.is_Within.ensures ∙ c.if-is_within.true)
+    found_least _ part_length _ (omega arith) l.invariant.1 (sym c.is_within.ensures ∙ c.if-is_within.true)
 
 pub loop-i-preserved : goal.loop-i-preserved
 loop-i-preserved c =
     let l = c.loop-i in
-    (omega arith, none_more _ _ l.invariant.1 (sym c.is_Within.ensures ∙ c.if-is_within.false))
+    (omega arith, none_more _ _ l.invariant.1 (sym c.is_within.ensures ∙ c.if-is_within.false))
 
 pub returns : goal.returns
 returns c =

@@ -10,9 +10,9 @@ use Rattle.levels.proofs.search.least_rectified.Goals as goal
 use Rattle.levels.proofs.search.least_rectified.Goals.{After-is_within}
 
 -- what is tested
-tested : (c : After-is_within) → let l = c.loop-hundredths in let a = c.args in rectified_at a.sample a.wanted a.tolerance l.hundredths ≡ c.is_Within.result
+tested : (c : After-is_within) → let l = c.loop-hundredths in let a = c.args in rectified_at a.sample a.wanted a.tolerance l.hundredths ≡ c.is_within.result
 unfolding rectified_at
-tested c = rw (← c.amount_of.ensures, ← c.blend_rectified-out.ensures) (sym c.is_Within.ensures)
+tested c = rw (← c.amount_of.ensures, ← c.blend_rectified-out.ensures) (sym c.is_within.ensures)
 
 pub returns-then-is_within : goal.returns-then-is_within
 returns-then-is_within c =
