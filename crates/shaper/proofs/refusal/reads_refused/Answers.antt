@@ -20,7 +20,7 @@ numbers c = rw c.rate_bad.ensures at c.numbers_refused-number.ensures
 -- none of them holds
 small : (c : Else-number-ne0) → let a = c.args in (a.s.frames ≤ 4096) × (a.s.lanes ≤ 64)
 small c =
-    let p = numbers_passed _ _ _ _ _ _ (sym (numbers c) ∙ c.if-number-ne0.false) in
+    let p = numbers_passed _ _ _ _ _ _ (sym (rw c.rate_bad.ensures at c.numbers_refused-number.ensures) ∙ c.if-number-ne0.false) in
     ((good_frame _ _ _ _ _ p.frames).0, (good_lane _ _ _ p.lanes).1)
 
 pub returns-then-number-ne0 : goal.returns-then-number-ne0
@@ -42,7 +42,7 @@ returns c =
     rw (reads_table _ _ _ _ _ _ _ _ _ _ _, ← numbers (goal.at.returns c).After-numbers_refused-number, d.if-number-ne0.false, ← c.reads_short.ensures, c.if-reads_short.false, ← c.carry_short.ensures, c.if-carry_short.false)
 
 pub reads_short-requires : goal.reads_short-requires
-reads_short-requires c = small c
+reads_short-requires c = small (goal.at.reads_short-requires c).Else-number-ne0
 
 pub carry_short-requires : goal.carry_short-requires
 carry_short-requires c = (small (goal.at.carry_short-requires c).Else-number-ne0).1

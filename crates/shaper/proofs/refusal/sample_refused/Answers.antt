@@ -32,7 +32,7 @@ returns c =
     rw (sample_table _ _ _ _ _ _ _ _, ← c.numbers_refused-number.ensures, d.if-number-ne0.false, ← c.controls_short.ensures, c.if-controls_short.false, ← c.pairs_short.ensures, c.if-pairs_short.false)
 
 pub controls_short-requires : goal.controls_short-requires
-controls_short-requires c = small c
+controls_short-requires c = small (goal.at.controls_short-requires c).Else-number-ne0
 
 pub pairs_short-requires : goal.pairs_short-requires
 pairs_short-requires c = (small (goal.at.pairs_short-requires c).Else-number-ne0).1

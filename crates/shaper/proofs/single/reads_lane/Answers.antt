@@ -1,6 +1,5 @@
 -- `single::reads_lane` meets its contract.
 use mathlib.Core.Path.{◌≡◌, sym, ◌∙◌}
-use Prim.Native.Nat.{ℕ}
 use native.Mathlib.Omega.{arith}
 use lib.ListN.{length}
 use Rattle.controls.specs.Controls.{control_buffers, control_lengths}
@@ -8,20 +7,24 @@ use Rattle.shaper.specs.Refusal.{reads_refusal}
 use Rattle.shaper.proofs.RefusalLaws.{ReadsAccepted, reads_accepted, driven_of_lem, held_of, fed_of}
 use Rattle.shaper.proofs.CallLaws.{reads_turned_down, reads_done}
 use Rattle.shaper.proofs.single.reads_lane.Goals as goal
-use Rattle.shaper.proofs.single.reads_lane.Goals.{After-reads_refused-number, Else-number-ne0, Start}
+use Rattle.shaper.proofs.single.reads_lane.Goals.{After-reads_refused-number, Else-number-ne0}
 
-abbrev number : Start → ℕ
-number c =
-    let a = c.args in
+-- what the refusal says of the call
+by-table : (c : After-reads_refused-number)
+    → let a = c.args in
+    c.reads_refused-number.result
+    ≡ reads_refusal a.s a.rate a.active a.lane a.r a.frame
+    (control_lengths (control_buffers a.base0.now a.base1.now a.mod0.now a.mod1.now a.source0.now a.source1.now))
+    (length a.curve.now) (length a.inner.now) (length a.fm.now) (length a.last.now)
+by-table c = rw c.control_lengths-lengths.ensures at c.reads_refused-number.ensures
+
+none : (c : Else-number-ne0)
+    → let a = c.args in
     reads_refusal a.s a.rate a.active a.lane a.r a.frame
     (control_lengths (control_buffers a.base0.now a.base1.now a.mod0.now a.mod1.now a.source0.now a.source1.now))
     (length a.curve.now) (length a.inner.now) (length a.fm.now) (length a.last.now)
-
-by-table : (c : After-reads_refused-number) → c.reads_refused-number.result ≡ number c
-by-table c = rw c.control_lengths-lengths.ensures at c.reads_refused-number.ensures
-
-none : (c : Else-number-ne0) → number c ≡ 0
-none c = sym (by-table c) ∙ c.if-number-ne0.false
+    ≡ 0
+none c = sym (rw c.control_lengths-lengths.ensures at c.reads_refused-number.ensures) ∙ c.if-number-ne0.false
 
 accepted : (c : Else-number-ne0)
     → let a = c.args in
@@ -58,4 +61,4 @@ pub returns : goal.returns
 returns c =
     let test = (goal.at.returns c).Else-number-ne0 in
     let did = c.reads_taken-reads in
-    reads_done _ _ _ _ _ _ _ _ _ _ _ _ _ (none test) did.ensures did.auto.1.1.1.1.1.1.1.1.1.1.1.1.1.1.1.0
+    reads_done _ _ _ _ _ _ _ _ _ _ _ _ _ (none test) did.ensures did.auto.fm

@@ -20,4 +20,4 @@ pub returns : goal.returns
 returns c = reads_taken _ _ (called (goal.at.returns c).After-reads_at-called) c.store_carry.ensures
 
 pub store_carry-requires : goal.store_carry-requires
-store_carry-requires c = c.requires.fact_2.0
+store_carry-requires c = c.requires.fact_2
