@@ -1,27 +1,23 @@
 -- `writer::write_patch` meets its contract.
 use mathlib.Core.Path.{◌≡◌, sym, ◌∙◌, ap}
-use mathlib.Core.Bool.{false, ◌||◌}
+use mathlib.Core.Bool.{Bool, false, ◌||◌}
 use Prim.Native.Nat.{◌<◌}
 use native.Mathlib.Omega.{arith}
 use Rattle.limits.proofs.LineLaws.{or_false}
+use Rattle.files.specs.declared.records.Entry.{Entry}
 use Rattle.files.specs.Format.{bad_fields}
 use Rattle.files.specs.Writer.{entry_of}
 use Rattle.files.proofs.WriterLaws.{small_mode, bad_fields_lem, too_short, wrote}
 use Rattle.files.proofs.writer.write_patch.Goals as goal
-use Rattle.files.proofs.writer.write_patch.Goals.{After-fields_bad-2, After-put_record, After-put_record-2, Else-fields_bad, Start}
+use Rattle.files.proofs.writer.write_patch.Goals.{After-put_record, After-put_record-2, Else-fields_bad}
 
 -- what the tests of the fields say
-tested : (c : After-fields_bad-2)
-    → (c.fields_bad.result || c.fields_bad-2.result)
-    ≡ (bad_fields (entry_of 0 c.args.patch.slot0) || bad_fields (entry_of 1 c.args.patch.slot1))
-tested c =
-    let one = c.fields_bad.ensures ∙ ap bad_fields c.entry_of-first.ensures in
-    let two = c.fields_bad-2.ensures ∙ ap bad_fields c.entry_of-second.ensures in
-    λ i. one i || two i
+tested : {f s e d : Entry} {a b : Bool} → a ≡ bad_fields f → b ≡ bad_fields s → f ≡ e → s ≡ d → (a || b) ≡ (bad_fields e || bad_fields d)
+tested p q u v = λ i. (p ∙ ap bad_fields u) i || (q ∙ ap bad_fields v) i
 
 good : (c : Else-fields_bad)
     → (bad_fields (entry_of 0 c.args.patch.slot0) || bad_fields (entry_of 1 c.args.patch.slot1)) ≡ false
-good c = sym (tested c) ∙ c.if-fields_bad.false
+good c = sym (tested c.fields_bad.ensures c.fields_bad-2.ensures c.entry_of-first.ensures c.entry_of-second.ensures) ∙ c.if-fields_bad.false
 
 each : (c : Else-fields_bad)
     → (bad_fields (entry_of 0 c.args.patch.slot0) ≡ false) × (bad_fields (entry_of 1 c.args.patch.slot1) ≡ false)
@@ -44,7 +40,7 @@ second-bytes : (c : Else-fields_bad) → (c.entry_of-second.result.slot < 256) �
 second-bytes c = rw c.entry_of-second.ensures (omega arith, small_mode 1 c.args.patch.slot1 (each c).1)
 
 pub returns-then-fields_bad : goal.returns-then-fields_bad
-returns-then-fields_bad c = bad_fields_lem _ _ (sym (tested (goal.at.returns-then-fields_bad c).After-fields_bad-2) ∙ c.if-fields_bad.true)
+returns-then-fields_bad c = bad_fields_lem _ _ (sym (tested c.fields_bad.ensures c.fields_bad-2.ensures c.entry_of-first.ensures c.entry_of-second.ensures) ∙ c.if-fields_bad.true)
 
 pub returns-then-file-lt-PATCH : goal.returns-then-file-lt-PATCH
 returns-then-file-lt-PATCH c = too_short _ _ (good (goal.at.returns-then-file-lt-PATCH c).Else-fields_bad) c.if-file-lt-PATCH.true
