@@ -25,8 +25,9 @@ use file_answers::examples::{EXAMPLES, examples_kept};
 use file_answers::runs::file_hash;
 use floats::POWERS;
 use level_answers::searches::level_hash;
-use libc::{STDIN_FILENO, STDOUT_FILENO};
 use picture_answers::pictures::picture_hash;
+use std::io;
+use std::io::Read;
 
 // The lines that are read at the most.
 const LINES: usize = 100000;
@@ -130,20 +131,16 @@ fn kept() -> Tally {
     added(boundaries, examples)
 }
 
-fn main() {
+fn main(rt: HostRuntime) -> io::Result<()> {
     let powers = POWERS;
     let table = answers::random::table();
     let mut tally = kept();
     for _ in 0..LINES {
         let mut line = [0u8; 39];
-        let n = io::read_full(STDIN_FILENO, &mut line);
-        if n < 39 {
+        if rt.stdin().read_exact(&mut line).is_err() {
             break;
         }
         tally = added(tally, replay(&powers, &table, &line));
     }
-    io::print_decimal(STDOUT_FILENO, tally.passed);
-    io::write_all(STDOUT_FILENO, b" of ");
-    io::print_decimal(STDOUT_FILENO, tally.total);
-    io::write_all(STDOUT_FILENO, b"\n");
+    println!(rt; "{} of {}", tally.passed, tally.total)
 }

@@ -9,7 +9,6 @@ use lib.ListN.{length, get_or, set}
 use lib.Seq.{paste, paste-zero, paste-suc}
 use borrow.Author.Rules.{rules}
 use Rattle.plans.proofs.row.copy.Goals as goal
-use Rattle.plans.proofs.row.copy.Goals.{At-loop-i, Start}
 
 -- one byte more
 one_more : (row₀ row text : List ℕ) (at i : ℕ) → row ≡ paste row₀ at text i → length row₀ ≡ 120 → at + length text ≤ 120 → i < length text
@@ -22,11 +21,8 @@ loop-i-init c = (zero-le, paste-zero c.args.row.now c.args.at c.args.text.now)
 
 pub loop-i-preserved : goal.loop-i-preserved
 loop-i-preserved c =
-    let start = (goal.at.loop-i-preserved c).At-loop-i in
-    (search rules, one_more start.args.row.now _ start.args.text.now start.args.at _ c.loop-i.invariant.1 start.requires.1 start.requires.0 c.loop-i-test.true)
+    (search rules, one_more c.args.row.now _ c.args.text.now c.args.at _ c.loop-i.invariant.1 c.requires.1 c.requires.0 c.loop-i-test.true)
 
 pub returns : goal.returns
 returns c =
-    let at-loop = (goal.at.returns c).At-loop-i in
-    let start = (goal.at.returns c).Start in
-    at-loop.loop-i.invariant.1 ∙ ap (paste start.args.row.now start.args.at start.args.text.now) (le_antisymm at-loop.loop-i.invariant.0 c.loop-i-test.false)
+    c.loop-i.invariant.1 ∙ ap (paste c.args.row.now c.args.at c.args.text.now) (le_antisymm c.loop-i.invariant.0 c.loop-i-test.false)

@@ -8,7 +8,6 @@ use lib.ListN.{length}
 use lib.Seq.{paste}
 use Rattle.plans.specs.Row.{put_left, end_left}
 use Rattle.plans.proofs.row.left.Goals as goal
-use Rattle.plans.proofs.row.left.Goals.{Start}
 
 -- what goes past the row's end is not put,
 no_room : (row text : List ℕ) (at : ℕ) → 120 < at + length text → (row ≡ put_left row at text) × (at ≡ end_left at text)
@@ -21,21 +20,26 @@ room : (row text : List ℕ) (at : ℕ) → at + length text ≤ 120
 unfolding put_left end_left
 room row text at h = (rw (le-ltb 120 (at + length text) h), rw (le-ltb 120 (at + length text) h))
 
--- PORT: a record of ['row_after', 'value']
 pub returns-then-wide-n : goal.returns-then-wide-n
-returns-then-wide-n c = no_room _ _ _ (omega arith)
+returns-then-wide-n c =
+    let r = no_room c.args.row.now c.args.text.now c.args.at (omega arith) in record {
+      row_after = r.0;
+      value = r.1;
+    }
 
--- PORT: a record of ['row_after', 'value']
 pub returns-then-wide-n-2 : goal.returns-then-wide-n-2
-returns-then-wide-n-2 c = no_room _ _ _ (omega arith)
+returns-then-wide-n-2 c =
+    let r = no_room c.args.row.now c.args.text.now c.args.at (omega arith) in record {
+      row_after = r.0;
+      value = r.1;
+    }
 
 pub copy-requires : goal.copy-requires
 copy-requires c = (omega arith, omega arith)
 
 pub returns : goal.returns
 returns c =
-    let s : Start = search in
-    let r = room s.args.row.now s.args.text.now s.args.at (omega arith) in record {
+    let r = room c.args.row.now c.args.text.now c.args.at (omega arith) in record {
       row_after = c.copy.ensures ∙ r.0;
       value = r.1;
     }

@@ -7,7 +7,6 @@ use borrow.Author.Tests.{lt-ltb, le-ltb}
 use Rattle.plans.specs.Digits.{last_digits, IsDigitCount}
 use Rattle.plans.specs.Row.{put_left, PutRight}
 use Rattle.plans.proofs.row.right.Goals as goal
-use Rattle.plans.proofs.row.right.Goals.{After-decimal-k}
 
 fits : (row text after : List ℕ) (end n k : ℕ) → IsDigitCount 10 1 n k → k ≤ end → text ≡ last_digits 10 k n → after ≡ put_left row (end - k) text
     → PutRight row end n after
@@ -19,10 +18,8 @@ no_room row end n k f h = record { places = k; fewest = f; put = rw (lt-ltb end 
 
 pub returns-then-k-end : goal.returns-then-k-end
 returns-then-k-end c =
-    let d : After-decimal-k = search in
-    fits _ _ _ _ _ _ d.decimal-k.ensures.len.0 (omega arith) d.decimal-k.ensures.len.1 c.left.ensures.row_after
+    fits _ _ _ _ _ _ c.decimal-k.ensures.len (omega arith) c.decimal-k.ensures.digits c.left.ensures.row_after
 
 pub returns-else-k-end : goal.returns-else-k-end
 returns-else-k-end c =
-    let d : After-decimal-k = search in
-    no_room _ _ _ _ d.decimal-k.ensures.len.0 (omega arith)
+    no_room _ _ _ _ c.decimal-k.ensures.len (omega arith)
