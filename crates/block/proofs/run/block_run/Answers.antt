@@ -6,13 +6,11 @@ use Rattle.render.specs.Lane.{Lent}
 use Rattle.share.specs.Share.{Buffers, buffers}
 use Rattle.render.specs.Promises.{lent}
 use Rattle.block.specs.Refusal.{block_refusal}
-use Rattle.block.specs.Call.{call_numbers, read_lengths, write_lengths, Taken}
+use Rattle.block.specs.Call.{call_numbers, read_lengths, write_lengths}
 use Rattle.block.proofs.RefusalLaws.{by_parts, accepted}
 use Rattle.block.proofs.CallLaws.{meets_refused, meets_shared}
 use Rattle.block.proofs.run.block_run.Goals as goal
-use Rattle.block.proofs.run.block_run.Goals.{After-call_numbers, After-read_lengths, After-refused-number, After-run_lanes, After-run_lanes-arg-6-1, After-slice_known-12-1, After-write_lengths, Else-number-ne0, Start}
-
--- ---- the places on the way: from each call back to the one before, and from the first to the entry
+use Rattle.block.proofs.run.block_run.Goals.{Start}
 
 -- ---- the test
 
@@ -30,39 +28,31 @@ number c =
     let a = c.args in
     block_refusal (call_numbers a.b a.r a.active) (read_lengths 36 13 (reads c)) (write_lengths (writes c))
 
-by-table : (c : After-refused-number) → c.refused-number.result ≡ number c
-by-table c =
-    let w = c in
-    let r = c in
-    by_parts block_refusal c.call_numbers.ensures r.read_lengths.ensures w.write_lengths.ensures c.refused-number.ensures
-
-none : (c : Else-number-ne0) → number c ≡ 0
-none c = sym (by-table c) ∙ c.if-number-ne0.false
-
 pub returns-then-number-ne0 : goal.returns-then-number-ne0
 returns-then-number-ne0 c =
     let o = (goal.at.returns-then-number-ne0 c).Start in
-    meets_refused o.args.b o.args.r o.args.active 36 13 (reads o) (writes o) _ (by-table (goal.at.returns-then-number-ne0 c).After-refused-number) c.if-number-ne0.true
+    let e : c.refused-number.result ≡ number o =
+    by_parts block_refusal c.call_numbers.ensures c.read_lengths.ensures c.write_lengths.ensures c.refused-number.ensures in
+    meets_refused o.args.b o.args.r o.args.active 36 13 (reads o) (writes o) _ e c.if-number-ne0.true
 
 -- ---- the run
 
-taken : (c : Else-number-ne0) → let o = c in Taken o.args.b o.args.r o.args.active (reads o) (writes o)
-taken c =
-    let o = c in
-    accepted o.args.b o.args.r o.args.active 36 13 (reads o) (writes o) (none c)
-
 pub run_lanes-requires : goal.run_lanes-requires
-run_lanes-requires c = record {
+run_lanes-requires c =
+    let o = (goal.at.run_lanes-requires c).Start in
+    let e : c.refused-number.result ≡ number o =
+    by_parts block_refusal c.call_numbers.ensures c.read_lengths.ensures c.write_lengths.ensures c.refused-number.ensures in
+    record {
       fact_1 = omega arith;
-      fact_2 = taken (goal.at.run_lanes-requires c).Else-number-ne0;
+      fact_2 = accepted o.args.b o.args.r o.args.active 36 13 (reads o) (writes o) (sym e ∙ c.if-number-ne0.false);
     }
 
 pub returns : goal.returns
 returns c =
-    let did = (goal.at.returns c).After-run_lanes in
-    let e = (goal.at.returns c).Else-number-ne0 in
     let o = (goal.at.returns c).Start in
-    meets_shared o.args.b o.args.r o.args.active 36 13 (reads o) (writes o) (none e) did.run_lanes.ensures
+    let e : c.refused-number.result ≡ number o =
+    by_parts block_refusal c.call_numbers.ensures c.read_lengths.ensures c.write_lengths.ensures c.refused-number.ensures in
+    meets_shared o.args.b o.args.r o.args.active 36 13 (reads o) (writes o) (sym e ∙ c.if-number-ne0.false) c.run_lanes.ensures
 
 pub shape_of-output : goal.shape_of-output
 shape_of-output c = c.run_lanes.ensures.sizes.output

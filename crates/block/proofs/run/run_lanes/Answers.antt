@@ -8,7 +8,7 @@ use Rattle.render.specs.Promises.{lent}
 use Rattle.share.specs.Promises.{Shared}
 use Rattle.block.proofs.SharedLaws.{shared_none, shared_more, writable_kept}
 use Rattle.block.proofs.run.run_lanes.Goals as goal
-use Rattle.block.proofs.run.run_lanes.Goals.{After-power_table-powers, After-run_lane, After-run_lane-arg-in-loop-lane-5-1, After-slice_known-in-loop-lane-6-1, At-loop-lane, In-loop-lane, Start}
+use Rattle.block.proofs.run.run_lanes.Goals.{At-loop-lane, In-loop-lane, Start}
 
 -- ---- the places on the way: from the loop's head back to the entry, and from a turn's end back to its head
 
@@ -22,7 +22,7 @@ abbrev writes : Start → Buffers
 writes c = let a = c.args in buffers a.output.now a.work.now a.pairs.now a.fm.now a.last.now a.dec.now
 
 abbrev here : At-loop-lane → Buffers
-here c = let l = c.loop-lane in buffers l.output-1 l.work-1 l.pairs-1 l.fm-1 l.last-1 l.dec-1
+here c = let l = c.loop-lane in buffers l.output l.work l.pairs l.fm l.last l.dec
 
 pub loop-lane-init : goal.loop-lane-init
 loop-lane-init c = ((omega arith, c.requires.fact_1), shared_none _ _)

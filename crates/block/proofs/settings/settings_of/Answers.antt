@@ -4,4 +4,4 @@ use Rattle.block.proofs.settings.settings_of.Goals as goal
 
 pub returns : goal.returns
 unfolding settings_of
-returns c = rw (c.designs_of-designs.ensures, c.Numbers-of.ensures)
+returns c = rw (c.designs_of-designs.ensures, c.numbers_of-taken.ensures)
