@@ -6,7 +6,7 @@ use Rattle.render.specs.Lane.{Lent}
 use Rattle.share.specs.Share.{Buffers, buffers}
 use Rattle.render.specs.Promises.{lent}
 use Rattle.block.specs.Refusal.{block_refusal}
-use Rattle.block.specs.Call.{call_numbers, read_lengths, write_lengths}
+use Rattle.block.specs.Call.{call_numbers, read_lengths, write_lengths, Taken}
 use Rattle.block.proofs.RefusalLaws.{by_parts, accepted}
 use Rattle.block.proofs.CallLaws.{meets_refused, meets_shared}
 use Rattle.block.proofs.run.block_run.Goals as goal
@@ -42,10 +42,9 @@ run_lanes-requires c =
     let o = (goal.at.run_lanes-requires c).Start in
     let e : c.refused-number.result ≡ number o =
     by_parts block_refusal c.call_numbers.ensures c.read_lengths.ensures c.write_lengths.ensures c.refused-number.ensures in
-    record {
-      fact_1 = omega arith;
-      fact_2 = accepted o.args.b o.args.r o.args.active 36 13 (reads o) (writes o) (sym e ∙ c.if-number-ne0.false);
-    }
+    let t : Taken o.args.b o.args.r o.args.active (reads o) (writes o) =
+    accepted o.args.b o.args.r o.args.active 36 13 (reads o) (writes o) (sym e ∙ c.if-number-ne0.false) in
+    record { fact_1 = omega arith; fact_2 = t }
 
 pub returns : goal.returns
 returns c =

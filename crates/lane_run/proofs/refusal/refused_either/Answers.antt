@@ -4,6 +4,7 @@ use mathlib.Core.Bool.{cond}
 use native.Mathlib.Omega.{arith}
 use lib.Dec.{eqb}
 use borrow.Author.Tests.{ne_eqb}
+use Rattle.std.proofs.lemmas.Bool.{not_from_true, not_from_false}
 use Rattle.lane_run.specs.LaneCall.{lane_refusal}
 use Rattle.lane_run.specs.Either.{either_refusal}
 use Rattle.lane_run.proofs.LaneLaws.{active_number, idle_number, as_run, as_lane}
@@ -14,13 +15,13 @@ use Rattle.lane_run.proofs.refusal.refused_either.Goals.{Else-lane-active, Else-
 pub returns-then-not-one : goal.returns-then-not-one
 returns-then-not-one c =
     let a = c.args in
-    c.refused-number.ensures ∙ sym (as_run a.one a.lane a.call a.reads a.writes c.if-not-one.true)
+    c.refused-number.ensures ∙ sym (as_run a.one a.lane a.call a.reads a.writes (not_from_false a.one c.if-not-one.true))
 
 -- a lane
 as-lane-here : (c : Else-not-one)
     → let a = c.args in
     either_refusal a.one a.lane a.call a.reads a.writes ≡ lane_refusal a.lane a.call a.reads a.writes
-as-lane-here c = let a = c.args in as_lane a.one a.lane a.call a.reads a.writes c.if-not-one.false
+as-lane-here c = let a = c.args in as_lane a.one a.lane a.call a.reads a.writes (not_from_true a.one c.if-not-one.false)
 
 pub returns-then-lane-active : goal.returns-then-lane-active
 returns-then-lane-active c = c.refused-number.ensures ∙ sym (as-lane-here (goal.at.returns-then-lane-active c).Else-not-one ∙ active_number _ _ _ _ c.if-lane-active.true)
@@ -31,7 +32,7 @@ idle : (c : Else-lane-active)
     either_refusal a.one a.lane a.call a.reads a.writes ≡ cond (eqb n 1) 1 (cond (eqb n 2) 2 3)
 idle c =
     let a = c.args in
-    as-lane-here c
+    as_lane a.one a.lane a.call a.reads a.writes (not_from_true a.one c.if-not-one.false)
     ∙ idle_number a.call a.lane a.reads a.writes (omega (arith, c.if-lane-active.false)) ∙ rw c.refused-number.ensures
 
 pub returns-then-number-eq1 : goal.returns-then-number-eq1

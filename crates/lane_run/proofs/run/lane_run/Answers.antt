@@ -10,9 +10,7 @@ use Rattle.block.proofs.RefusalLaws.{by_parts}
 use Rattle.lane_run.specs.LaneCall.{lane_refusal}
 use Rattle.lane_run.proofs.LaneLaws.{lane_taken, lane_refused, lane_shared}
 use Rattle.lane_run.proofs.run.lane_run.Goals as goal
-use Rattle.lane_run.proofs.run.lane_run.Goals.{After-call_numbers, After-read_lengths, After-refused_either-number, After-run_lanes, After-run_lanes-arg-6-1, After-slice_known-12-1, After-write_lengths, Else-number-ne0, Start}
-
--- ---- the places on the way: from each call back to the one before, and from the first to the entry
+use Rattle.lane_run.proofs.run.lane_run.Goals.{Start}
 
 -- ---- the test
 
@@ -30,43 +28,40 @@ number c =
     let a = c.args in
     lane_refusal a.lane (call_numbers a.b a.r a.active) (read_lengths 36 13 (reads c)) (write_lengths (writes c))
 
-by-table : (c : After-refused_either-number) → c.refused_either-number.result ≡ number c
-by-table c =
-    let w = c in
-    let r = c in
-    by_parts (lane_refusal c.args.lane) c.call_numbers.ensures r.read_lengths.ensures w.write_lengths.ensures c.refused_either-number.ensures
-
-none : (c : Else-number-ne0) → number c ≡ 0
-none c = sym (by-table c) ∙ c.if-number-ne0.false
-
 pub returns-then-number-ne0 : goal.returns-then-number-ne0
 returns-then-number-ne0 c =
     let o = (goal.at.returns-then-number-ne0 c).Start in
-    lane_refused o.args.b o.args.r o.args.active o.args.lane 36 13 (reads o) (writes o) _ (by-table (goal.at.returns-then-number-ne0 c).After-refused_either-number) c.if-number-ne0.true
+    let e : c.refused_either-number.result ≡ number o =
+    by_parts (lane_refusal o.args.lane) c.call_numbers.ensures c.read_lengths.ensures c.write_lengths.ensures c.refused_either-number.ensures in
+    lane_refused o.args.b o.args.r o.args.active o.args.lane 36 13 (reads o) (writes o) _ e c.if-number-ne0.true
 
 -- ---- the run
 
-taken : (c : Else-number-ne0) → let o = c in Taken o.args.b o.args.r (o.args.lane + 1) (reads o) (writes o)
-taken c =
-    let o = c in
-    lane_taken o.args.b o.args.r o.args.active o.args.lane 36 13 (reads o) (writes o) (none c)
-
 -- the lane is below 64
 pub overflow_add-lane : goal.overflow_add-lane
-overflow_add-lane c = let t = taken c in omega (arith, t.actives, t.limits.lanes)
+overflow_add-lane c =
+    let o = (goal.at.overflow_add-lane c).Start in
+    let e : c.refused_either-number.result ≡ number o =
+    by_parts (lane_refusal o.args.lane) c.call_numbers.ensures c.read_lengths.ensures c.write_lengths.ensures c.refused_either-number.ensures in
+    let t : Taken o.args.b o.args.r (o.args.lane + 1) (reads o) (writes o) =
+    lane_taken o.args.b o.args.r o.args.active o.args.lane 36 13 (reads o) (writes o) (sym e ∙ c.if-number-ne0.false) in
+    omega (arith, t.actives, t.limits.lanes)
 
 pub run_lanes-requires : goal.run_lanes-requires
-run_lanes-requires c = record {
-      fact_1 = omega arith;
-      fact_2 = taken (goal.at.run_lanes-requires c).Else-number-ne0;
-    }
+run_lanes-requires c =
+    let o = (goal.at.run_lanes-requires c).Start in
+    let e : c.refused_either-number.result ≡ number o =
+    by_parts (lane_refusal o.args.lane) c.call_numbers.ensures c.read_lengths.ensures c.write_lengths.ensures c.refused_either-number.ensures in
+    let t : Taken o.args.b o.args.r (o.args.lane + 1) (reads o) (writes o) =
+    lane_taken o.args.b o.args.r o.args.active o.args.lane 36 13 (reads o) (writes o) (sym e ∙ c.if-number-ne0.false) in
+    record { fact_1 = omega arith; fact_2 = t }
 
 pub returns : goal.returns
 returns c =
-    let did = (goal.at.returns c).After-run_lanes in
-    let e = (goal.at.returns c).Else-number-ne0 in
     let o = (goal.at.returns c).Start in
-    lane_shared o.args.b o.args.r o.args.active o.args.lane 36 13 (reads o) (writes o) (none e) did.run_lanes.ensures
+    let e : c.refused_either-number.result ≡ number o =
+    by_parts (lane_refusal o.args.lane) c.call_numbers.ensures c.read_lengths.ensures c.write_lengths.ensures c.refused_either-number.ensures in
+    lane_shared o.args.b o.args.r o.args.active o.args.lane 36 13 (reads o) (writes o) (sym e ∙ c.if-number-ne0.false) c.run_lanes.ensures
 
 pub shape_of-output : goal.shape_of-output
 shape_of-output c = c.run_lanes.ensures.sizes.output

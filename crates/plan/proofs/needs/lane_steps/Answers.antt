@@ -1,5 +1,6 @@
 -- `needs::lane_steps` meets its contract, factor by factor.
 use mathlib.Core.Path.{sym}
+use Rattle.std.proofs.Common.{◌≢◌}
 use Prim.Native.Nat.{◌+◌, ◌*◌, ◌≤◌}
 use native.Mathlib.Omega.{arith}
 use borrow.Author.Tests.{ne_eqb}
@@ -46,8 +47,8 @@ returns-in-8 c =
 pub returns-in_default : goal.returns-in_default
 unfolding lane_steps stages_of
 returns-in_default c =
-    let a = c.args in let m = c.in_default.rest in record {
-      value = rw (ne_eqb _ 2 m.0.0.1, ne_eqb _ 4 m.0.1, ne_eqb _ 8 m.1) (sym (steps_none a.count0 a.count1 a.count2 a.frames));
+    let a = c.args in let not2 : a.factor ≢ 2 = omega arith in let not4 : a.factor ≢ 4 = omega arith in let not8 : a.factor ≢ 8 = omega arith in record {
+      value = rw (ne_eqb _ 2 not2, ne_eqb _ 4 not4, ne_eqb _ 8 not8) (sym (steps_none a.count0 a.count1 a.count2 a.frames));
       upper_bound = omega arith;
     }
 
