@@ -11,7 +11,7 @@ use Rattle.grid.specs.Functions.{table}
 use Rattle.lanes.specs.Lane.{mul_add, min_of, max_of}
 use Rattle.lanes.specs.Maths.{sign_of, clamp_of, sin_cycles, tanh_of, exp_of}
 use Rattle.modes.specs.Mode.{number_of, Valve, SoftClip, HardClip, Diode1, Diode2, Fold, SineFold, ZeroSquare, Asymmetric, Rectify, SineShaper, Pedal, Tape, SoftSaturate}
-use Rattle.modes.specs.Choice.{Case, ◌⇒◌, case_of}
+use Rattle.modes.specs.Choice.{◌⇒◌, case_of}
 
 -- VALVE_TANH_BIAS, 0.24491866, and VALVE_BIAS, 0.25
 abbrev pub valve_tanh_bias : Float

@@ -7,7 +7,7 @@ use Rattle.floats.specs.Exp2.{exp2_of}
 use Rattle.lanes.specs.Lane.{mul_add, min_of}
 use Rattle.lanes.specs.Maths.{clamp_of, tan_of}
 use Rattle.modes.specs.Mode.{number_of, LowPass}
-use Rattle.modes.specs.Choice.{Case, ◌⇒◌, case_of}
+use Rattle.modes.specs.Choice.{◌⇒◌, case_of}
 use Rattle.wave.specs.declared.filters.Svf.{Svf}
 use Rattle.wave.specs.declared.filters.Filtered.{Filtered}
 

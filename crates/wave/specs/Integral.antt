@@ -9,7 +9,7 @@ use Rattle.floats.specs.Sqrt.{sqrt_of}
 use Rattle.lanes.specs.Lane.{mul_add, min_of, max_of}
 use Rattle.lanes.specs.Maths.{cos_cycles, exp_of, ln_of, ln_cosh}
 use Rattle.modes.specs.Mode.{number_of, Valve, SoftClip, HardClip, Diode1, Diode2, Fold, SineFold, ZeroSquare, Asymmetric, Rectify, SineShaper, Pedal, Tape, SoftSaturate}
-use Rattle.modes.specs.Choice.{Case, ◌⇒◌, case_of}
+use Rattle.modes.specs.Choice.{◌⇒◌, case_of}
 use Rattle.wave.specs.Filter.{pi}
 use Rattle.wave.specs.Curve.{valve_tanh_bias, valve_bias, valve_scale, within, frac_pi2}
 

@@ -5,7 +5,7 @@ use Rattle.std.proofs.Math.Option.{Option, some, none}
 use Rattle.floats.specs.F32.{◌⊕◌, ◌⊖◌, ◌⊗◌, 1f, ½f}
 use Rattle.floats.specs.Steps.{◌>>=◌, if◌then◌else◌}
 use Rattle.modes.specs.Mode.{number_of, LowPass, HighPass}
-use Rattle.modes.specs.Choice.{Case, ◌⇒◌, case_of}
+use Rattle.modes.specs.Choice.{◌⇒◌, case_of}
 use Rattle.modes.specs.Facts.{Fact, given, refused, Stage, is_wave, Modulated, fm, phase_distortion, am, ring}
 use Rattle.modes.specs.Table.{stage_of, modulated_of}
 use Rattle.wave.specs.declared.filters.Svf.{Svf}
