@@ -9,10 +9,10 @@ pub distortion-fact-requires : goal.distortion-fact-requires
 distortion-fact-requires c = tt
 
 pub returns-in-Yes : goal.returns-in-Yes
-returns-in-Yes c = arm flag_cases (code_of flag_code) 1 (0 ∷ []) refl _ c.in-Yes-1.is c.distortion-fact.ensures
+returns-in-Yes c = arm flag_cases (code_of flag_code) 1 (0 ∷ []) refl _ c.in-Yes.is c.distortion-fact.ensures
 
 pub returns-in-No : goal.returns-in-No
-returns-in-No c = arm flag_cases (code_of flag_code) 0 (1 ∷ []) refl _ c.in-No-1.is c.distortion-fact.ensures
+returns-in-No c = arm flag_cases (code_of flag_code) 0 (1 ∷ []) refl _ c.in-No.is c.distortion-fact.ensures
 
 pub returns-in-Refused : goal.returns-in-Refused
-returns-in-Refused c = arm flag_cases (code_of flag_code) 257 (2 ∷ []) refl _ c.in-Refused-1.is c.distortion-fact.ensures
+returns-in-Refused c = arm flag_cases (code_of flag_code) 257 (2 ∷ []) refl _ c.in-Refused.is c.distortion-fact.ensures
