@@ -10,6 +10,7 @@ use Rattle.share.specs.Share.{Buffers, buffers}
 use Rattle.render.specs.Promises.{lent}
 use Rattle.block.specs.declared.refusal.CallNumbers.{CallNumbers}
 use Rattle.block.specs.declared.refusal.ReadLengths.{ReadLengths}
+use Rattle.block.specs.declared.refusal.WriteLengths.{WriteLengths}
 use Rattle.block.specs.Call.{call_numbers, read_lengths, write_lengths}
 use Rattle.block.specs.Numbers.{settings_of, range_of}
 use Rattle.block.proofs.RefusalLaws.{passed, by_parts, whole_slices}
@@ -17,9 +18,7 @@ use Rattle.block.proofs.SharedLaws.{shared_by}
 use Rattle.lane_run.specs.Either.{either_refusal}
 use Rattle.lane_run.proofs.LaneLaws.{either_passed, either_active, either_taken, either_refused, either_shared, taken_by, shared_at}
 use Rattle.card.proofs.either.run_either.Goals as goal
-use Rattle.card.proofs.either.run_either.Goals.{After-interval_of-asked, After-read_lengths, After-refused_either-number, After-run_lanes, After-run_lanes-arg-6-1, After-settings_of-b, After-slice_known-12-1, After-write_lengths, Else-number-ne0, Start}
-
--- ---- the places on the way: from each call back to the one before, and from the first to the entry
+use Rattle.card.proofs.either.run_either.Goals.{Start}
 
 -- ---- the test
 
@@ -50,54 +49,48 @@ abbrev number : Start → ℕ
 number c = either_refusal c.args.one c.args.lane (numbers c) (lengths c) (write_lengths (writes c))
 
 -- the settings have the numbers that came one by one
-by-table : (c : After-refused_either-number) → c.refused_either-number.result ≡ number c
+by_table : (c : Start) (r : ReadLengths) (w : WriteLengths) (n : ℕ) → r ≡ lengths c → w ≡ write_lengths (writes c)
+    → let a = c.args in
+    n ≡ either_refusal a.one a.lane (record { mode0 = a.mode0; mode1 = a.mode1; factor = a.factor; lanes = a.lanes; active = a.active; frames = a.frames; first = a.first; count = a.count; rate = a.rate; count0 = a.count0; count1 = a.count1; count2 = a.count2 }) r w
+    → n ≡ number c
 unfolding settings_of designs_of
-by-table c =
-    let w = c in
-    by_parts (either_refusal c.args.one c.args.lane) refl c.read_lengths.ensures w.write_lengths.ensures c.refused_either-number.ensures
-
-none : (c : Else-number-ne0) → number c ≡ 0
-none c = sym (by-table c) ∙ c.if-number-ne0.false
+by_table c r w n read written h = by_parts (either_refusal c.args.one c.args.lane) refl read written h
 
 pub returns-then-number-ne0 : goal.returns-then-number-ne0
 returns-then-number-ne0 c =
     let o = (goal.at.returns-then-number-ne0 c).Start in
     either_refused (settings o) (range o) o.args.active o.args.lane (length o.args.coefs.now) (length o.args.numbers.now) (reads o) (writes o) o.args.one _
-    (by-table (goal.at.returns-then-number-ne0 c).After-refused_either-number) c.if-number-ne0.true
+    (by_table o _ _ _ c.read_lengths.ensures c.write_lengths.ensures c.refused_either-number.ensures) c.if-number-ne0.true
 
 -- ---- the run
 
--- PORT: a record of ['fact_1', 'fact_2']
 pub settings_of-b-requires : goal.settings_of-b-requires
 settings_of-b-requires c =
     let o = (goal.at.settings_of-b-requires c).Start in
-    whole_slices (numbers o) (lengths o) (passed (numbers o) (lengths o) _ (either_passed (numbers o) o.args.lane _ _ o.args.one (none c))).read
+    let none : number o ≡ 0 = sym (by_table o _ _ _ c.read_lengths.ensures c.write_lengths.ensures c.refused_either-number.ensures) ∙ c.if-number-ne0.false in
+    let whole = whole_slices (numbers o) (lengths o) (passed (numbers o) (lengths o) _ (either_passed (numbers o) o.args.lane _ _ o.args.one none)).read in
+    record { fact_1 = whole.0; fact_2 = whole.1 }
 
 pub interval_of-asked-requires : goal.interval_of-asked-requires
 interval_of-asked-requires c =
-    let e = (goal.at.interval_of-asked-requires c).Else-number-ne0 in
     let o = (goal.at.interval_of-asked-requires c).Start in
-    either_active (settings o) (range o) o.args.active o.args.lane (length o.args.coefs.now) (length o.args.numbers.now) (reads o) (writes o) o.args.one (none e)
+    let none : number o ≡ 0 = sym (by_table o _ _ _ c.read_lengths.ensures c.write_lengths.ensures c.refused_either-number.ensures) ∙ c.if-number-ne0.false in
+    either_active (settings o) (range o) o.args.active o.args.lane (length o.args.coefs.now) (length o.args.numbers.now) (reads o) (writes o) o.args.one none
 
--- PORT: a record of ['fact_1', 'fact_2']
 pub run_lanes-requires : goal.run_lanes-requires
 run_lanes-requires c =
-    let i = (goal.at.run_lanes-requires c).After-interval_of-asked in
-    let s = (goal.at.run_lanes-requires c).After-settings_of-b in
-    let e = (goal.at.run_lanes-requires c).Else-number-ne0 in
     let o = (goal.at.run_lanes-requires c).Start in
-    taken_by s.settings_of-b.ensures i.interval_of-asked.ensures
-    (either_taken (settings o) (range o) o.args.active o.args.lane (length o.args.coefs.now) (length o.args.numbers.now) (reads o) (writes o) o.args.one (none e))
+    let none : number o ≡ 0 = sym (by_table o _ _ _ c.read_lengths.ensures c.write_lengths.ensures c.refused_either-number.ensures) ∙ c.if-number-ne0.false in
+    let t = taken_by c.settings_of-b.ensures c.interval_of-asked.ensures
+    (either_taken (settings o) (range o) o.args.active o.args.lane (length o.args.coefs.now) (length o.args.numbers.now) (reads o) (writes o) o.args.one none) in
+    record { fact_1 = t.0; fact_2 = t.1 }
 
 pub returns : goal.returns
 returns c =
-    let did = (goal.at.returns c).After-run_lanes in
-    let i = (goal.at.returns c).After-interval_of-asked in
-    let s = (goal.at.returns c).After-settings_of-b in
-    let e = (goal.at.returns c).Else-number-ne0 in
     let o = (goal.at.returns c).Start in
-    either_shared (settings o) (range o) o.args.active o.args.lane (length o.args.coefs.now) (length o.args.numbers.now) (reads o) (writes o) o.args.one (none e)
-    (shared_at i.interval_of-asked.ensures (shared_by s.settings_of-b.ensures did.run_lanes.ensures))
+    let none : number o ≡ 0 = sym (by_table o _ _ _ c.read_lengths.ensures c.write_lengths.ensures c.refused_either-number.ensures) ∙ c.if-number-ne0.false in
+    either_shared (settings o) (range o) o.args.active o.args.lane (length o.args.coefs.now) (length o.args.numbers.now) (reads o) (writes o) o.args.one none
+    (shared_at c.interval_of-asked.ensures (shared_by c.settings_of-b.ensures c.run_lanes.ensures))
 
 pub shape_of-output : goal.shape_of-output
 shape_of-output c = c.run_lanes.ensures.sizes.output

@@ -3,7 +3,6 @@ use mathlib.Core.Path.{sym, ◌∙◌}
 use Rattle.limits.proofs.LengthLaws.{long_enough}
 use Rattle.levels.proofs.LevelLaws.{lines_passed, turned_down_lem, passed}
 use Rattle.card.proofs.level.shaper_amount_for.Goals as goal
-use Rattle.card.proofs.level.shaper_amount_for.Goals.{Else-number-ne0}
 
 pub returns-then-number-ne0 : goal.returns-then-number-ne0
 returns-then-number-ne0 c = turned_down_lem _ _ _ _ _ _ c.refused-number.ensures c.if-number-ne0.true
@@ -12,6 +11,4 @@ pub numbers_of-taken-requires : goal.numbers_of-taken-requires
 numbers_of-taken-requires c = long_enough _ _ (lines_passed _ _ (sym c.refused-number.ensures ∙ c.if-number-ne0.false)).1
 
 pub returns : goal.returns
-returns c =
-    let d = (goal.at.returns c).Else-number-ne0 in
-    (rw c.Numbers-of.ensures at c.searched.ensures) ∙ passed _ _ _ _ _ _ c.refused-number.ensures d.if-number-ne0.false
+returns c = (rw c.numbers_of-taken.ensures at c.searched.ensures) ∙ passed _ _ _ _ _ _ c.refused-number.ensures c.if-number-ne0.false
