@@ -9,7 +9,7 @@ use Rattle.spans.proofs.asked.stretch.Goals.{Else-number-ne0}
 
 accepted : (c : Else-number-ne0)
     → let a = c.args in
-    stretch_refusal a.factor a.lanes a.active a.lane a.frames a.first a.count a.asked-first a.asked (length a.stretch.now) (length a.add.now) ≡ 0
+    stretch_refusal a.factor a.lanes a.active a.lane a.frames a.first a.count a.asked_first a.asked (length a.stretch.now) (length a.add.now) ≡ 0
 accepted c = sym c.stretch_refused-number.ensures ∙ c.if-number-ne0.false
 
 pub returns-then-number-ne0 : goal.returns-then-number-ne0
@@ -28,4 +28,4 @@ returns c =
     }
 
 pub spans_of-rows-requires : goal.spans_of-rows-requires
-spans_of-rows-requires c = accepted_frames _ _ _ _ _ _ _ _ _ _ _ (accepted c)
+spans_of-rows-requires c = accepted_frames _ _ _ _ _ _ _ _ _ _ _ (accepted (goal.at.spans_of-rows-requires c).Else-number-ne0)

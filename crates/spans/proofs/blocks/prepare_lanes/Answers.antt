@@ -1,30 +1,26 @@
 -- `blocks::prepare_lanes` meets its contract. The invariant: the lanes passed have their sub-blocks.
 use mathlib.Core.Path.{◌≡◌, refl, ◌∙◌}
-use Prim.Native.Nat.{◌-◌}
 use native.Mathlib.Omega.{arith}
 use Rattle.grid.proofs.EachLaws.{each_none, each_join}
 use Rattle.spans.proofs.blocks.prepare_lanes.Goals as goal
-use Rattle.spans.proofs.blocks.prepare_lanes.Goals.{At-loop-lane, Start}
 
 pub prepare_lane-requires : goal.prepare_lane-requires
 prepare_lane-requires c =
-    let here = (goal.at.prepare_lane-requires c).At-loop-lane in
     let p = c.requires in
-    let i = here.loop-lane.invariant in record {
-      powers_value = p.0;
-      takes = rw (i.1, i.2, i.3) p.1.0;
+    let i = c.loop-lane.invariant in record {
+      powers_value = p.powers_value;
+      takes = rw (i.1, i.2, i.3) p.takes;
       lane_lt_n = omega arith;
     }
 
 pub loop-lane-preserved : goal.loop-lane-preserved
 loop-lane-preserved c =
-    let here = (goal.at.loop-lane-preserved c).At-loop-lane in
-    let i = here.loop-lane.invariant in
+    let i = c.loop-lane.invariant in
     let did = c.prepare_lane in (
       omega arith,
-      did.auto.1.1.1.1.1.1.1.1.1.1.1.1.1.1.1.1.0 ∙ i.1,
-      did.auto.1.1.1.1.1.1.1.1.1.1.1.1.1.1.1.1.1.0 ∙ i.2,
-      did.auto.1.1.1.1.1.1.1.1.1.1.1.1.1.1.1.1.1.1.0 ∙ i.3,
+      did.auto.inner ∙ i.1,
+      did.auto.stretch ∙ i.2,
+      did.auto.add ∙ i.3,
       each_join (omega arith) (omega arith) i.4 did.ensures,
     )
 

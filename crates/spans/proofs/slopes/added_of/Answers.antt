@@ -1,35 +1,52 @@
 -- `slopes::added_of` meets its contract.
-use mathlib.Core.Path.{refl}
-use mathlib.Core.List.{[], ◌∷◌}
-use Rattle.modes.proofs.Arms.{arm, modulated_cases}
+use mathlib.Core.Path.{◌≡◌, refl, sym, ap, ◌∙◌}
+use Prim.Native.Nat.{ℕ}
+use lib.Ieee.{Float}
+use mathlib.Core.Option.{Option}
+use Rattle.modes.specs.Facts.{Fact, Modulated}
+use Rattle.modes.specs.Says.{modulated_says}
+use Rattle.modes.specs.declared.modulation.ModulatedFact.{ModulatedFact}
+use Rattle.spans.specs.declared.slopes.Swing.{Swing}
 use Rattle.spans.specs.Slopes.{added_by, added_of}
 use Rattle.spans.proofs.slopes.added_of.Goals as goal
 
+-- an answer that is known
+at_case : {B : Type 0} (f : Fact (Option Modulated) → B) {r k : ModulatedFact} → r ≡ k → {a : Fact (Option Modulated)} → modulated_says r ≡ a → f (modulated_says k) ≡ f a
+at_case f e h = ap (λ x. f (modulated_says x)) (sym e) ∙ ap f h
+
+-- every answer but the four arms'
+others : (a : Float) (w : Swing) (factor : ℕ) (hertz add : Float) (r : ModulatedFact)
+    → (r ≡ ModulatedFact.FmThruZero → ⊥) → (r ≡ ModulatedFact.FmExponential → ⊥) → (r ≡ ModulatedFact.FmLinear → ⊥) → (r ≡ ModulatedFact.PhaseDistortion → ⊥)
+    → add ≡ added_by a w factor hertz add (modulated_says r)
+unfolding modulated_says
+others a w factor hertz add ModulatedFact.FmThruZero n₀ n₁ n₂ n₃ = absurd (n₀ refl)
+others a w factor hertz add ModulatedFact.FmExponential n₀ n₁ n₂ n₃ = absurd (n₁ refl)
+others a w factor hertz add ModulatedFact.FmLinear n₀ n₁ n₂ n₃ = absurd (n₂ refl)
+others a w factor hertz add ModulatedFact.PhaseDistortion n₀ n₁ n₂ n₃ = absurd (n₃ refl)
+others a w factor hertz add ModulatedFact.Am n₀ n₁ n₂ n₃ = refl
+others a w factor hertz add ModulatedFact.Ring n₀ n₁ n₂ n₃ = refl
+others a w factor hertz add ModulatedFact.Nothing n₀ n₁ n₂ n₃ = refl
+others a w factor hertz add ModulatedFact.Refused n₀ n₁ n₂ n₃ = refl
+
 pub returns-in-FmThruZero : goal.returns-in-FmThruZero
-unfolding added_of
-returns-in-FmThruZero c =
-    rw c.fm_slope.ensures
-    (arm modulated_cases (added_by _ _ _ _ _) _ (0 ∷ []) refl _ c.in-FmThruZero-1.is c.modulated-modulated.ensures)
+unfolding added_of modulated_says
+returns-in-FmThruZero c = rw c.fm_slope.ensures (at_case (added_by _ _ _ _ _) c.in-FmThruZero.is c.modulated-modulated.ensures)
 
 pub returns-in-FmExponential : goal.returns-in-FmExponential
-unfolding added_of
+unfolding added_of modulated_says
 returns-in-FmExponential c =
-    rw (c.fm_slope-in-FmExponential.ensures, c.fm_exponential.ensures)
-    (arm modulated_cases (added_by _ _ _ _ _) _ (1 ∷ []) refl _ c.in-FmExponential-1.is c.modulated-modulated.ensures)
+    rw (c.fm_slope-in-FmExponential.ensures, c.fm_exponential.ensures) (at_case (added_by _ _ _ _ _) c.in-FmExponential.is c.modulated-modulated.ensures)
 
 pub returns-in-FmLinear : goal.returns-in-FmLinear
-unfolding added_of
-returns-in-FmLinear c =
-    rw c.fm_slope-in-FmLinear.ensures
-    (arm modulated_cases (added_by _ _ _ _ _) _ (2 ∷ []) refl _ c.in-FmLinear-1.is c.modulated-modulated.ensures)
+unfolding added_of modulated_says
+returns-in-FmLinear c = rw c.fm_slope-in-FmLinear.ensures (at_case (added_by _ _ _ _ _) c.in-FmLinear.is c.modulated-modulated.ensures)
 
 pub returns-in-PhaseDistortion : goal.returns-in-PhaseDistortion
-unfolding added_of
-returns-in-PhaseDistortion c =
-    rw c.pd_slope.ensures
-    (arm modulated_cases (added_by _ _ _ _ _) _ (3 ∷ []) refl _ c.in-PhaseDistortion-1.is c.modulated-modulated.ensures)
+unfolding added_of modulated_says
+returns-in-PhaseDistortion c = rw c.pd_slope.ensures (at_case (added_by _ _ _ _ _) c.in-PhaseDistortion.is c.modulated-modulated.ensures)
 
 pub returns-in_default : goal.returns-in_default
 unfolding added_of
 returns-in_default c =
-    arm modulated_cases (added_by _ _ _ _ _) _ (4 ∷ 5 ∷ 6 ∷ 7 ∷ []) refl _ c.in_default.is c.modulated-modulated.ensures
+    others _ _ _ _ _ _ c.in_default.not-FmThruZero c.in_default.not-FmExponential c.in_default.not-FmLinear c.in_default.not-PhaseDistortion
+    ∙ ap (added_by _ _ _ _ _) c.modulated-modulated.ensures

@@ -1,19 +1,18 @@
 -- `slopes::slot_span` meets its contract: its steps are the definition's.
 use mathlib.Core.Path.{◌≡◌, sym, ◌∙◌}
-use mathlib.Core.Logic.{⊎_elim}
-use Rattle.floats.specs.Steps.{given, taken, left}
+use Rattle.floats.specs.Steps.{if◌then◌else◌, given, taken, left}
 use Rattle.spans.specs.Slopes.{slot_span}
 use Rattle.spans.proofs.slopes.slot_span.Goals as goal
-use Rattle.spans.proofs.slopes.slot_span.Goals.{Joined-second}
+use Rattle.spans.proofs.slopes.slot_span.Goals.{Joined-second, then-second, else-second}
 
 inner : (c : Joined-second)
     → let a = c.args in
     c.if-second.inner ≡ (if a.second then c.steepest_at-steepest.result else a.span.inner)
 inner c =
-    ⊎_elim
-    (λ way. way.1 ∙ sym (taken _ _ way.0.taken))
-    (λ way. way.1 ∙ sym (left _ _ way.0.left))
-    c.if-second.branch
+    elim c.if-second.branch [
+      then-second w ↦ w.inner-is ∙ sym (taken _ _ w.if-second.true)
+    | else-second w ↦ w.inner-is ∙ sym (left _ _ w.if-second.false)
+    ]
 
 pub returns-then-in_phase : goal.returns-then-in_phase
 unfolding slot_span

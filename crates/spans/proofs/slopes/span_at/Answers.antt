@@ -1,16 +1,15 @@
 -- `slopes::span_at` meets its contract: its steps are the definition's.
 use mathlib.Core.Path.{◌≡◌}
-use mathlib.Core.Logic.{⊎_elim}
-use Prim.Native.Nat.{◌*◌}
+use Prim.Native.Nat.{◌*◌, ◌+◌, ◌≤◌}
 use native.Mathlib.Omega.{arith}
 use Rattle.floats.specs.Steps.{given}
 use Rattle.spans.specs.Slopes.{rows_in, span_at}
 use Rattle.spans.specs.Promises.{Sub}
 use Rattle.spans.proofs.slopes.span_at.Goals as goal
-use Rattle.spans.proofs.slopes.span_at.Goals.{Joined-left-lt-SUB_BLOCK, Start}
+use Rattle.spans.proofs.slopes.span_at.Goals.{Joined-left-lt-SUB_BLOCK, then-left-lt-SUB_BLOCK, else-left-lt-SUB_BLOCK}
 
 rows : (c : Joined-left-lt-SUB_BLOCK) → c.if-left-lt-SUB_BLOCK.k ≡ rows_in c.args.frames c.args.s
-rows c = ⊎_elim (λ way. let e = way.1 in let t = way.0.taken in omega arith) (λ way. let e = way.1 in let t = way.0.left in omega arith) c.if-left-lt-SUB_BLOCK.branch
+rows c = elim c.if-left-lt-SUB_BLOCK.branch [ then-left-lt-SUB_BLOCK w ↦ omega arith | else-left-lt-SUB_BLOCK w ↦ omega arith ]
 
 sub : (c : Joined-left-lt-SUB_BLOCK) → Sub c.args.frames c.args.n c.args.lane (c.args.s * 32) c.if-left-lt-SUB_BLOCK.k
 sub c =
@@ -20,22 +19,20 @@ sub c =
 
 pub slot_span-one-requires : goal.slot_span-one-requires
 slot_span-one-requires c =
-    let j = (goal.at.slot_span-one-requires c).Joined-left-lt-SUB_BLOCK in
     let p = c.requires in record {
-      fact_1 = p.0;
-      fact_2 = sub j;
-      fact_3 = p.1.controls.mod1;
-      fact_4 = p.1.controls.source1;
+      fact_1 = p.powers_value;
+      fact_2 = sub (goal.at.slot_span-one-requires c).Joined-left-lt-SUB_BLOCK;
+      fact_3 = p.prepares.controls.mod1;
+      fact_4 = p.prepares.controls.source1;
     }
 
 pub slot_span-requires : goal.slot_span-requires
 slot_span-requires c =
-    let j = (goal.at.slot_span-requires c).Joined-left-lt-SUB_BLOCK in
     let p = c.requires in record {
-      fact_1 = p.0;
-      fact_2 = sub j;
-      fact_3 = p.1.controls.mod0;
-      fact_4 = p.1.controls.source0;
+      fact_1 = p.powers_value;
+      fact_2 = sub (goal.at.slot_span-requires c).Joined-left-lt-SUB_BLOCK;
+      fact_3 = p.prepares.controls.mod0;
+      fact_4 = p.prepares.controls.source0;
     }
 
 pub returns : goal.returns
