@@ -30,23 +30,23 @@ others a w factor hertz add ModulatedFact.Refused n₀ n₁ n₂ n₃ = refl
 
 pub returns-in-FmThruZero : goal.returns-in-FmThruZero
 unfolding added_of modulated_says
-returns-in-FmThruZero c = rw c.fm_slope.ensures (at_case (added_by _ _ _ _ _) c.in-FmThruZero.is c.modulated-modulated.ensures)
+returns-in-FmThruZero c = rw c.fm_slope.ensures (at_case (added_by c.args.a c.args.w c.args.factor c.args.per_hertz c.args.add) c.in-FmThruZero.is c.modulated-modulated.ensures)
 
 pub returns-in-FmExponential : goal.returns-in-FmExponential
 unfolding added_of modulated_says
 returns-in-FmExponential c =
-    rw (c.fm_slope-in-FmExponential.ensures, c.fm_exponential.ensures) (at_case (added_by _ _ _ _ _) c.in-FmExponential.is c.modulated-modulated.ensures)
+    rw (c.fm_slope-in-FmExponential.ensures, c.fm_exponential.ensures) (at_case (added_by c.args.a c.args.w c.args.factor c.args.per_hertz c.args.add) c.in-FmExponential.is c.modulated-modulated.ensures)
 
 pub returns-in-FmLinear : goal.returns-in-FmLinear
 unfolding added_of modulated_says
-returns-in-FmLinear c = rw c.fm_slope-in-FmLinear.ensures (at_case (added_by _ _ _ _ _) c.in-FmLinear.is c.modulated-modulated.ensures)
+returns-in-FmLinear c = rw c.fm_slope-in-FmLinear.ensures (at_case (added_by c.args.a c.args.w c.args.factor c.args.per_hertz c.args.add) c.in-FmLinear.is c.modulated-modulated.ensures)
 
 pub returns-in-PhaseDistortion : goal.returns-in-PhaseDistortion
 unfolding added_of modulated_says
-returns-in-PhaseDistortion c = rw c.pd_slope.ensures (at_case (added_by _ _ _ _ _) c.in-PhaseDistortion.is c.modulated-modulated.ensures)
+returns-in-PhaseDistortion c = rw c.pd_slope.ensures (at_case (added_by c.args.a c.args.w c.args.factor c.args.per_hertz c.args.add) c.in-PhaseDistortion.is c.modulated-modulated.ensures)
 
 pub returns-in_default : goal.returns-in_default
 unfolding added_of
 returns-in_default c =
-    others _ _ _ _ _ _ c.in_default.not-FmThruZero c.in_default.not-FmExponential c.in_default.not-FmLinear c.in_default.not-PhaseDistortion
-    ∙ ap (added_by _ _ _ _ _) c.modulated-modulated.ensures
+    others c.args.a c.args.w c.args.factor c.args.per_hertz c.args.add _ c.in_default.not-FmThruZero c.in_default.not-FmExponential c.in_default.not-FmLinear c.in_default.not-PhaseDistortion
+    ∙ ap (added_by c.args.a c.args.w c.args.factor c.args.per_hertz c.args.add) c.modulated-modulated.ensures
