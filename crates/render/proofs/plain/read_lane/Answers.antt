@@ -30,13 +30,12 @@ pub place-to-requires : goal.place-to-requires
 place-to-requires c = let p = c.requires in (omega (arith, p.frames), p.inside, p.few)
 
 pub loop-k-preserved : goal.loop-k-preserved
-loop-k-preserved c =
-    let l = c in (
+loop-k-preserved c = (
       omega (arith, c.loop-k-test.true),
-      rw length-set l.loop-k.invariant.1,
+      rw length-set c.loop-k.invariant.1,
       rw c.place-to.ensures
-          (reads_more _ _ _ _ _ l.loop-k.k _ _ _ c.requires.inside (omega (arith, c.place-to.ensures, write-in (goal.at.loop-k-preserved c).After-place-to))
-          (rw (← c.place-at.ensures) c.read_cycle.ensures) l.loop-k.invariant.2),
+          (reads_more _ _ _ _ _ c.loop-k.k _ _ _ c.requires.inside (omega (arith, c.place-to.ensures, write-in (goal.at.loop-k-preserved c).After-place-to))
+          (rw (← c.place-at.ensures) c.read_cycle.ensures) c.loop-k.invariant.2),
     )
 
 pub returns : goal.returns

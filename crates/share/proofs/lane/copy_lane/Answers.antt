@@ -5,7 +5,7 @@ use native.Mathlib.Omega.{arith}
 use lib.ListN.{length, length-set}
 use Rattle.share.proofs.ShareLaws.{copies_none, copies_more, from_in, from_near, to_in, to_near}
 use Rattle.share.proofs.lane.copy_lane.Goals as goal
-use Rattle.share.proofs.lane.copy_lane.Goals.{After-place-from, After-place-to, At-loop-k, Start}
+use Rattle.share.proofs.lane.copy_lane.Goals.{After-place-from, After-place-to}
 
 read-near : (c : After-place-from) → c.place-from.result < 262144
 read-near c = omega (arith, c.place-from.ensures, from_near c.requires c.loop-k.k c.loop-k-test.true)
@@ -21,12 +21,11 @@ write-in c =
     omega (arith, c.place-to.ensures, c.loop-k.invariant.1, to_in c.requires c.loop-k.k c.loop-k-test.true)
 
 pub loop-k-preserved : goal.loop-k-preserved
-loop-k-preserved c =
-    let l = (goal.at.loop-k-preserved c).At-loop-k in (
+loop-k-preserved c = (
       omega (arith, c.loop-k-test.true),
-      rw length-set l.loop-k.invariant.1,
+      rw length-set c.loop-k.invariant.1,
       rw (c.place-to.ensures, c.place-from.ensures)
-          (copies_more _ _ _ _ l.loop-k.k _ _ c.requires.inside (omega (arith, c.place-to.ensures, write-in (goal.at.loop-k-preserved c).After-place-to)) l.loop-k.invariant.2),
+          (copies_more _ _ _ _ c.loop-k.k _ _ c.requires.inside (omega (arith, c.place-to.ensures, write-in (goal.at.loop-k-preserved c).After-place-to)) c.loop-k.invariant.2),
     )
 
 pub returns : goal.returns
