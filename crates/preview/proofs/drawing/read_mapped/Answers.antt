@@ -1,6 +1,6 @@
 -- `drawing::read_mapped` meets its contract.
 use mathlib.Core.Path.{◌≡◌, refl, ◌∙◌, ap}
-use Prim.Native.Nat.{ℕ, ◌<◌, ◌-◌}
+use Prim.Native.Nat.{ℕ, ◌<◌}
 use native.Mathlib.Omega.{arith}
 use lib.ListN.{length}
 use Rattle.preview.specs.Points.{word_at}
@@ -19,11 +19,11 @@ word_at-word-requires c =
 
 pub point-requires : goal.point-requires
 point-requires c = let p = c.requires in record {
-      set_1 = p.set_1;
-      set_2 = p.set_2;
-      in_bounds_1 = p.in_bounds_1;
-      in_bounds_2 = p.in_bounds_2;
-    }
+  set_1 = p.set_1;
+  set_2 = p.set_2;
+  in_bounds_1 = p.in_bounds_1;
+  in_bounds_2 = p.in_bounds_2;
+}
 
 pub loop-i-preserved : goal.loop-i-preserved
 loop-i-preserved c =

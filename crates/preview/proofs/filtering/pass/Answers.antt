@@ -1,6 +1,5 @@
 -- `filtering::pass` meets its contract.
 use mathlib.Core.Path.{◌≡◌, refl}
-use Prim.Native.Nat.{◌-◌}
 use native.Mathlib.Omega.{arith}
 use lib.ListN.{length}
 use Rattle.preview.proofs.RunLaws.{pass_none, pass_more}

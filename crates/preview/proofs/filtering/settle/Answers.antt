@@ -1,6 +1,5 @@
 -- `filtering::settle` meets its contract.
 use mathlib.Core.Path.{◌≡◌, refl}
-use Prim.Native.Nat.{◌-◌}
 use native.Mathlib.Omega.{arith}
 use Rattle.preview.proofs.RunLaws.{settled_none, settled_more}
 use Rattle.preview.proofs.filtering.settle.Goals as goal

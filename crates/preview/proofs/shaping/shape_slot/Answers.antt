@@ -2,7 +2,7 @@
 use mathlib.Core.Path.{◌≡◌, sym, ◌∙◌}
 use mathlib.Core.Bool.{true, false, not, ◌&&◌}
 use Rattle.floats.specs.Steps.{taken, left}
-use Rattle.wave.specs.Slot.{in_wave, is_filter}
+use Rattle.wave.specs.Slot.{in_wave}
 use Rattle.preview.specs.Shaping.{has_source, shaped_of}
 use Rattle.preview.proofs.shaping.shape_slot.Goals as goal
 use Rattle.preview.proofs.shaping.shape_slot.Goals.{Else-is_filter, Then-in_wave-has_source, Then-is_filter}
