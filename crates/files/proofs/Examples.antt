@@ -3,7 +3,6 @@ use mathlib.Core.Path.{◌≡◌, refl}
 use mathlib.Core.List.{List, [], ◌∷◌, ◌++◌}
 use Prim.Native.Nat.{ℕ}
 use Rattle.limits.specs.Lines.{first_of}
-use Rattle.files.specs.declared.patches.Patch.{Patch}
 use Rattle.files.specs.Patch.{card_amount, card_character}
 use Rattle.files.specs.Writer.{file_of}
 use Rattle.floats.specs.F32.{bits}

@@ -1,6 +1,6 @@
 -- `reader::read_patch` meets its contract. The invariant: what is left to read is the whole file's reading.
 use mathlib.Core.Path.{sym, ◌∙◌}
-use Prim.Native.Nat.{◌+◌, ◌-◌, ◌≤◌}
+use Prim.Native.Nat.{◌+◌, ◌≤◌}
 use native.Mathlib.Omega.{arith}
 use lib.ListN.{length}
 use Rattle.files.proofs.ReaderLaws.{passed, onward_none, onward_more, onward_refused, onward_done, over_limit, within_limit}

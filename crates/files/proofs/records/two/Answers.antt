@@ -6,6 +6,6 @@ use Rattle.files.proofs.records.two.Goals as goal
 pub returns : goal.returns
 unfolding two_at
 returns c = record {
-      value = rw (c.byte-2.ensures.value, c.byte.ensures.value);
-      upper_bound = omega arith;
-    }
+  value = rw (c.byte-2.ensures.value, c.byte.ensures.value);
+  upper_bound = omega arith;
+}
