@@ -17,6 +17,6 @@ product x =
 
 pub returns : goal.returns
 returns c =
-    c.wrapping_add_u64-2.ensures
-    ∙ ap (λ (n : ℕ). (n + bit_xor c.args.h c.args.word % 16777216 * 1099511627776) % 18446744073709551616) c.wrapping_add_u64.ensures
+    c.wrapping_add_u64-2.ensures.value
+    ∙ ap (λ (n : ℕ). (n + bit_xor c.args.h c.args.word % 16777216 * 1099511627776) % 18446744073709551616) c.wrapping_add_u64.ensures.value
     ∙ product (bit_xor c.args.h c.args.word)
