@@ -30,6 +30,9 @@ returns-then-number-ne0 c = turned_down_lem _ _ _ _ _ _ _ _ _ _ _ (by-table (goa
 
 -- ---- what the calls ask for
 
+pub slice_bounds-table-end : goal.slice_bounds-table-end
+slice_bounds-table-end c = let p = accepted _ _ _ _ _ _ _ _ (none (goal.at.slice_bounds-table-end c).Else-number-ne0) in omega (arith, p.curves)
+
 pub spans_of-rows-requires : goal.spans_of-rows-requires
 spans_of-rows-requires c = (accepted _ _ _ _ _ _ _ _ (none (goal.at.spans_of-rows-requires c).Else-number-ne0)).takes.block
 
