@@ -1,6 +1,5 @@
 -- `curve::steepest_of` meets its contract. The loop's invariant: the fold over the pairs passed.
 use mathlib.Core.Path.{◌≡◌, refl}
-use Prim.Native.Nat.{◌-◌}
 use native.Mathlib.Numerals.{add-one}
 use native.Mathlib.Omega.{arith}
 use Rattle.curve.specs.Curve.{steepest_to, steepest_of}

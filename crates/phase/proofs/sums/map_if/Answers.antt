@@ -5,9 +5,9 @@ use Rattle.phase.proofs.sums.map_if.Goals as goal
 
 pub map-requires : goal.map-requires
 map-requires c = record {
-      fact_1 = c.requires.fact_1 c.if-on.true;
-      fact_2 = c.requires.fact_2;
-    }
+  fact_1 = c.requires.fact_1 c.if-on.true;
+  fact_2 = c.requires.fact_2;
+}
 
 pub returns-then-on : goal.returns-then-on
 unfolding map_if

@@ -8,10 +8,10 @@ use Rattle.reads.specs.Reads.{cycle_at}
 use Rattle.reads.proofs.lists.read_cycle.Goals as goal
 
 -- the entry of the word one entry on
-next-entry : (word : ℕ) → add_words word 2097152 / 2097152 ≡ (word / 2097152 + 1) % 2048
+next_entry : (word : ℕ) → add_words word 2097152 / 2097152 ≡ (word / 2097152 + 1) % 2048
 unfolding add_words
-next-entry word = omega arith
+next_entry word = omega arith
 
 pub returns : goal.returns
 unfolding cycle_at
-returns c = rw (c.add_words.ensures, next-entry _) (search steps)
+returns c = rw (c.add_words.ensures, next_entry _) (search steps)
