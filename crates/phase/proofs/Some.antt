@@ -10,7 +10,7 @@ use lib.Ieee.{Float}
 use borrow.Author.Tests.{ltb-false}
 use Rattle.floats.specs.Steps.{if◌then◌else◌}
 use Rattle.reads.specs.declared.lists.ReadList.{ReadList}
-use Rattle.reads.specs.Reads.{start_of, weighted_of, push_of}
+use Rattle.reads.specs.Reads.{start_of, push_of}
 use Rattle.phase.specs.declared.map.Slot.{Slot}
 use Rattle.phase.specs.Map.{map_of, mapped, emptied, apply_of}
 use Rattle.phase.specs.Sums.{apply_if}

@@ -10,7 +10,7 @@ use Rattle.lanes.specs.Lane.{mul_add, min_of, max_of}
 use Rattle.lanes.specs.Maths.{above_of, pick_of, clamp_of, smoothstep_of, sin_cycles, cos_cycles, atan_of}
 use Rattle.lanes.specs.Word.{add_words, signed_of, to_word, lookup_of}
 use Rattle.modes.specs.Mode.{number_of, Sync, PinchIn, PinchOut, Pinch, PulseWidth, LeanRight, LeanLeft, Lean, Flip, Mirror, RemapDrawn, RemapMirrored, RemapSine, RemapQuad, Quantise, OddEven}
-use Rattle.modes.specs.Choice.{Case, ◌⇒◌, case_of}
+use Rattle.modes.specs.Choice.{◌⇒◌, case_of}
 use Rattle.reads.specs.declared.lists.ReadList.{ReadList}
 use Rattle.reads.specs.Reads.{empty_of, weighted_of, push_of, push_pair}
 use Rattle.slope.specs.Strengths.{lean_max, pulse_max, pinch_strength, lean_strength}

@@ -3,7 +3,7 @@ use Rattle.std.specs.Prelude.{ℕ, [], ◌∷◌, Float}
 use Rattle.floats.specs.F32.{◌⊖◌, ◌⊗◌, 1f, 2f, 4f, 10f}
 use Rattle.floats.specs.Exp2.{exp2_of}
 use Rattle.modes.specs.Mode.{number_of, Sync, Quantise}
-use Rattle.modes.specs.Choice.{Case, ◌⇒◌, case_of}
+use Rattle.modes.specs.Choice.{◌⇒◌, case_of}
 
 -- Sync's ratio; 4 is SYNC_MAX_RATIO.log2()
 unfoldable pub ratio_of : Float → Float

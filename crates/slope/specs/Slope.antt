@@ -8,7 +8,7 @@ use Rattle.floats.specs.Sqrt.{sqrt_of}
 use Rattle.floats.specs.Exp2.{exp2_of}
 use Rattle.lanes.specs.Maths.{clamp_of}
 use Rattle.modes.specs.Mode.{number_of, Sync, PinchIn, PinchOut, Pinch, PulseWidth, LeanRight, LeanLeft, Lean, Mirror, RemapDrawn, RemapMirrored, RemapSine, RemapQuad}
-use Rattle.modes.specs.Choice.{Case, ◌⇒◌, case_of}
+use Rattle.modes.specs.Choice.{◌⇒◌, case_of}
 use Rattle.limits.specs.declared.answers.Value.{Value}
 use Rattle.limits.specs.Lines.{bad_mode}
 use Rattle.slope.specs.Strengths.{lean_max, pulse_max, pinch_strength, lean_strength}

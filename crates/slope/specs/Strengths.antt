@@ -3,7 +3,7 @@ use Rattle.std.specs.Prelude.{ℕ, [], ◌∷◌, Float}
 use Rattle.std.specs.Float.Ieee as Ieee
 use Rattle.floats.specs.F32.{◌⊖◌, ◌⊗◌, bits, 1f, 2f}
 use Rattle.modes.specs.Mode.{number_of, PinchIn, PinchOut, LeanRight, LeanLeft}
-use Rattle.modes.specs.Choice.{Case, ◌⇒◌, case_of}
+use Rattle.modes.specs.Choice.{◌⇒◌, case_of}
 
 -- PINCH_MAX, 0.8, LEAN_MAX, 1.8, and PULSE_MAX, 0.95
 abbrev pub pinch_max : Float
