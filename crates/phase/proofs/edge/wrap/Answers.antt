@@ -1,12 +1,7 @@
 -- `phase::wrap` meets its contract.
-use borrow.Author.Rules.{rules}
 use Rattle.floats.specs.Steps.{steps}
 use Rattle.phase.specs.Edge.{wrap_of}
 use Rattle.phase.proofs.edge.wrap.Goals as goal
-
-pub floor-requires : goal.floor-requires
-unfolding wrap_of
-floor-requires c = search rules
 
 pub returns : goal.returns
 unfolding wrap_of

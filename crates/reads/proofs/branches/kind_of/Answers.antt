@@ -4,10 +4,6 @@ use Rattle.floats.specs.Steps.{taken, left}
 use Rattle.reads.specs.Branches.{kind_of}
 use Rattle.reads.proofs.branches.kind_of.Goals as goal
 
-pub any-requires : goal.any-requires
-unfolding kind_of
-any-requires c = tt
-
 pub returns-then-any : goal.returns-then-any
 unfolding kind_of
 returns-then-any c = rw (taken _ _ (sym c.any.ensures ∙ c.if-any.true))

@@ -8,18 +8,3 @@ pub returns : goal.returns
 unfolding push_pair
 returns c out =
     rw (step, given c.a_first-mask.ensures, given c.pick_word-first.ensures, given c.pick_word-second.ensures, given c.pick-first_weight.ensures, step, step, step, c.kind_of-kind.ensures) (kind_made _ _ _ _ _ out)
-
-pub a_first-mask-requires : goal.a_first-mask-requires
-a_first-mask-requires c = tt
-
-pub pick_word-first-requires : goal.pick_word-first-requires
-pick_word-first-requires c = tt
-
-pub pick_word-second-requires : goal.pick_word-second-requires
-pick_word-second-requires c = tt
-
-pub pick-first_weight-requires : goal.pick-first_weight-requires
-pick-first_weight-requires c = tt
-
-pub kind_of-kind-requires : goal.kind_of-kind-requires
-kind_of-kind-requires c = tt

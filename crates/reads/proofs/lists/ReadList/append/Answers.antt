@@ -15,15 +15,3 @@ returns-then-kind-eq-KIND_BOTH c = rw (c.if-kind-eq-KIND_BOTH.true, c.push-then-
 pub returns-else-kind-eq-KIND_BOTH : goal.returns-else-kind-eq-KIND_BOTH
 unfolding appended ◌>>=◌ if◌then◌else◌
 returns-else-kind-eq-KIND_BOTH c = rw (ne_eqb _ _ c.if-kind-eq-KIND_ONE.false, ne_eqb _ _ c.if-kind-eq-KIND_BOTH.false, c.push-one.ensures, c.weighted.ensures)
-
-pub push-requires : goal.push-requires
-push-requires c = tt
-
-pub weighted-requires : goal.weighted-requires
-weighted-requires c = tt
-
-pub push-one-requires : goal.push-one-requires
-push-one-requires c = tt
-
-pub push-requires-then-kind-eq-KIND_BOTH : goal.push-requires-then-kind-eq-KIND_BOTH
-push-requires-then-kind-eq-KIND_BOTH c = tt
