@@ -31,12 +31,12 @@ place-to-requires c = let p = c.requires in (omega (arith, p.frames), p.inside, 
 
 pub loop-k-preserved : goal.loop-k-preserved
 loop-k-preserved c = (
-      omega (arith, c.loop-k-test.true),
-      rw length-set c.loop-k.invariant.1,
-      rw c.place-to.ensures
-          (reads_more _ _ _ _ _ c.loop-k.k _ _ _ c.requires.inside (omega (arith, c.place-to.ensures, write-in (goal.at.loop-k-preserved c).After-place-to))
-          (rw (← c.place-at.ensures) c.read_cycle.ensures) c.loop-k.invariant.2),
-    )
+  omega (arith, c.loop-k-test.true),
+  rw length-set c.loop-k.invariant.1,
+  rw c.place-to.ensures
+      (reads_more _ _ _ _ _ c.loop-k.k _ _ _ c.requires.inside (omega (arith, c.place-to.ensures, write-in (goal.at.loop-k-preserved c).After-place-to))
+      (rw (← c.place-at.ensures) c.read_cycle.ensures) c.loop-k.invariant.2),
+)
 
 pub returns : goal.returns
 returns c =
