@@ -12,7 +12,7 @@ use Rattle.limits.proofs.SearchLaws.{least_below_lem, one_least}
 use Rattle.modes.specs.Table.{is_distortion}
 use Rattle.levels.specs.declared.Found.{Found}
 use Rattle.levels.specs.Levels.{amounts, within_at}
-use Rattle.levels.specs.Found.{accepted, searched_of, found_of}
+use Rattle.levels.specs.Found.{searched_of, found_of}
 use Rattle.levels.specs.Answered.{LeastAmount, NoAmount, Searched, Situation, other, short, nowhere, least, answer_of, Answered}
 use Rattle.levels.proofs.LevelLaws.{other_mode, few_numbers, no_line, serving, none_serving, turned_down_lem, passed}
 

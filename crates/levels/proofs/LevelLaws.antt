@@ -3,10 +3,10 @@ use mathlib.Core.Path.{◌≡◌, refl, ◌∙◌}
 use mathlib.Core.Bool.{Bool, true, false, not}
 use mathlib.Core.List.{List}
 use Prim.Native.Nat.{ℕ, ◌≤◌, ◌<◌}
-use lib.Dec.{ltb, eqb}
+use lib.Dec.{ltb}
 use lib.Ieee.{Float}
 use borrow.Author.Tests.{lt-ltb, le-ltb, ne_eqb, not-false}
-use Rattle.floats.specs.Steps.{if◌then◌else◌, by_taken, by_left}
+use Rattle.floats.specs.Steps.{by_taken, by_left}
 use Rattle.limits.specs.Lines.{first_of}
 use Rattle.limits.specs.Search.{least_below}
 use Rattle.limits.proofs.LineLaws.{first_passed}

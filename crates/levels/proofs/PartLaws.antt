@@ -13,7 +13,7 @@ use Rattle.grid.proofs.TableLaws.{length_table, get_d-table}
 use Rattle.limits.specs.Search.{least_below}
 use Rattle.limits.proofs.SearchLaws.{least_alike}
 use Rattle.wave.specs.Curve.{curve_of, curves_of}
-use Rattle.wave.specs.Smooth.{drive_of, rectified}
+use Rattle.wave.specs.Smooth.{drive_of}
 use Rattle.wave.proofs.Distorting.{distort_rectified, distort_curved}
 use Rattle.levels.specs.Levels.{amounts, amount_of, within_of, within_at}
 use Rattle.levels.specs.Parts.{part_length, drives_from, rectified_at, curved_at}

@@ -15,9 +15,9 @@ returns-then-is_own c =
 
 pub source_at-requires : goal.source_at-requires
 source_at-requires c = record {
-      fact_1 = c.requires.fact_1;
-      fact_2 = c.requires.fact_2.holds c.if-source-eq0.false;
-    }
+  fact_1 = c.requires.fact_1;
+  fact_2 = c.requires.fact_2.holds c.if-source-eq0.false;
+}
 
 pub returns : goal.returns
 unfolding heard_at

@@ -1,10 +1,9 @@
 -- `search::fill_drives` meets its contract.
 use mathlib.Core.Path.{◌≡◌, refl}
-use Prim.Native.Nat.{◌-◌, ◌<◌}
+use Prim.Native.Nat.{◌<◌}
 use native.Mathlib.Omega.{arith}
 use lib.ListN.{length}
 use Rattle.grid.proofs.RunLaws.{ran_none, ran_more, ran_done}
-use Rattle.levels.specs.Levels.{amount_of}
 use Rattle.levels.specs.Parts.{drives_from}
 use Rattle.levels.proofs.search.fill_drives.Goals as goal
 use Rattle.levels.proofs.search.fill_drives.Goals.{In-loop-i}

@@ -1,7 +1,5 @@
 -- `search::first_within` meets its contract. The loop's invariant: no output before is within.
 use mathlib.Core.Path.{◌≡◌, sym, ◌∙◌}
-use mathlib.Core.Bool.{false}
-use Prim.Native.Nat.{◌-◌}
 use native.Mathlib.Omega.{arith}
 use Rattle.limits.proofs.SearchLaws.{none_yet, none_more, found_least, none_past}
 use Rattle.levels.specs.Parts.{part_length}

@@ -1,6 +1,4 @@
 -- `search::least_curved` meets its contract. The loop's invariant: no amount of the parts before serves.
-use mathlib.Core.Bool.{false}
-use Prim.Native.Nat.{◌-◌}
 use native.Mathlib.Omega.{arith}
 use Rattle.limits.proofs.SearchLaws.{none_yet, part_none, part_found, part_past, none_past}
 use Rattle.levels.specs.Levels.{amounts}

@@ -1,7 +1,5 @@
 -- `search::least_rectified` meets its contract. The loop's invariant: no smaller amount serves.
 use mathlib.Core.Path.{◌≡◌, sym, ◌∙◌}
-use mathlib.Core.Bool.{false}
-use Prim.Native.Nat.{◌-◌}
 use native.Mathlib.Omega.{arith}
 use Rattle.limits.proofs.SearchLaws.{none_yet, none_more, found_least, none_past}
 use Rattle.levels.specs.Levels.{amounts}
