@@ -1,18 +1,13 @@
 -- `slopes::added_of` meets its contract.
-use mathlib.Core.Path.{◌≡◌, refl, sym, ap, ◌∙◌}
+use mathlib.Core.Path.{◌≡◌, refl, ap, ◌∙◌}
 use Prim.Native.Nat.{ℕ}
 use lib.Ieee.{Float}
-use mathlib.Core.Option.{Option}
-use Rattle.modes.specs.Facts.{Fact, Modulated}
 use Rattle.modes.specs.Says.{modulated_says}
+use Rattle.modes.proofs.Arms.{case_arm}
 use Rattle.modes.specs.declared.modulation.ModulatedFact.{ModulatedFact}
 use Rattle.spans.specs.declared.slopes.Swing.{Swing}
 use Rattle.spans.specs.Slopes.{added_by, added_of}
 use Rattle.spans.proofs.slopes.added_of.Goals as goal
-
--- an answer that is known
-at_case : {B : Type 0} (f : Fact (Option Modulated) → B) {r k : ModulatedFact} → r ≡ k → {a : Fact (Option Modulated)} → modulated_says r ≡ a → f (modulated_says k) ≡ f a
-at_case f e h = ap (λ x. f (modulated_says x)) (sym e) ∙ ap f h
 
 -- every answer but the four arms'
 others : (a : Float) (w : Swing) (factor : ℕ) (hertz add : Float) (r : ModulatedFact)
@@ -30,20 +25,20 @@ others a w factor hertz add ModulatedFact.Refused n₀ n₁ n₂ n₃ = refl
 
 pub returns-in-FmThruZero : goal.returns-in-FmThruZero
 unfolding added_of modulated_says
-returns-in-FmThruZero c = rw c.fm_slope.ensures (at_case (added_by c.args.a c.args.w c.args.factor c.args.per_hertz c.args.add) c.in-FmThruZero.is c.modulated-modulated.ensures)
+returns-in-FmThruZero c = rw c.fm_slope.ensures (case_arm modulated_says (added_by c.args.a c.args.w c.args.factor c.args.per_hertz c.args.add) c.in-FmThruZero.is c.modulated-modulated.ensures)
 
 pub returns-in-FmExponential : goal.returns-in-FmExponential
 unfolding added_of modulated_says
 returns-in-FmExponential c =
-    rw (c.fm_slope-in-FmExponential.ensures, c.fm_exponential.ensures) (at_case (added_by c.args.a c.args.w c.args.factor c.args.per_hertz c.args.add) c.in-FmExponential.is c.modulated-modulated.ensures)
+    rw (c.fm_slope-in-FmExponential.ensures, c.fm_exponential.ensures) (case_arm modulated_says (added_by c.args.a c.args.w c.args.factor c.args.per_hertz c.args.add) c.in-FmExponential.is c.modulated-modulated.ensures)
 
 pub returns-in-FmLinear : goal.returns-in-FmLinear
 unfolding added_of modulated_says
-returns-in-FmLinear c = rw c.fm_slope-in-FmLinear.ensures (at_case (added_by c.args.a c.args.w c.args.factor c.args.per_hertz c.args.add) c.in-FmLinear.is c.modulated-modulated.ensures)
+returns-in-FmLinear c = rw c.fm_slope-in-FmLinear.ensures (case_arm modulated_says (added_by c.args.a c.args.w c.args.factor c.args.per_hertz c.args.add) c.in-FmLinear.is c.modulated-modulated.ensures)
 
 pub returns-in-PhaseDistortion : goal.returns-in-PhaseDistortion
 unfolding added_of modulated_says
-returns-in-PhaseDistortion c = rw c.pd_slope.ensures (at_case (added_by c.args.a c.args.w c.args.factor c.args.per_hertz c.args.add) c.in-PhaseDistortion.is c.modulated-modulated.ensures)
+returns-in-PhaseDistortion c = rw c.pd_slope.ensures (case_arm modulated_says (added_by c.args.a c.args.w c.args.factor c.args.per_hertz c.args.add) c.in-PhaseDistortion.is c.modulated-modulated.ensures)
 
 pub returns-in_default : goal.returns-in_default
 unfolding added_of

@@ -1,7 +1,8 @@
 -- `voice::is_own` meets its contract.
-use mathlib.Core.Path.{◌≡◌, refl, sym, ap, ◌∙◌}
+use mathlib.Core.Path.{◌≡◌, refl, ap, ◌∙◌}
 use mathlib.Core.Bool.{false}
 use Rattle.modes.specs.Says.{source_says}
+use Rattle.modes.proofs.Arms.{case_arm}
 use Rattle.modes.specs.declared.modulation.SourceFact.{SourceFact}
 use Rattle.voice.specs.PhaseRun.{says_own, is_own}
 use Rattle.voice.proofs.phase_run.is_own.Goals as goal
@@ -21,7 +22,7 @@ others SourceFact.Refused n = refl
 
 pub returns-in-Own : goal.returns-in-Own
 unfolding is_own source_says
-returns-in-Own c = ap (λ r. says_own (source_says r)) (sym c.in-Own.is) ∙ ap says_own c.source-source.ensures
+returns-in-Own c = case_arm source_says says_own c.in-Own.is c.source-source.ensures
 
 pub returns-in_default : goal.returns-in_default
 unfolding is_own

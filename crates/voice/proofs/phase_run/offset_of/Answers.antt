@@ -1,16 +1,11 @@
 -- `voice::offset_of` meets its contract.
-use mathlib.Core.Path.{◌≡◌, refl, sym, ap, ◌∙◌}
+use mathlib.Core.Path.{◌≡◌, refl, ap, ◌∙◌}
 use lib.Ieee.{Float}
-use mathlib.Core.Option.{Option}
-use Rattle.modes.specs.Facts.{Fact, Modulated}
 use Rattle.modes.specs.Says.{modulated_says}
+use Rattle.modes.proofs.Arms.{case_arm}
 use Rattle.modes.specs.declared.modulation.ModulatedFact.{ModulatedFact}
 use Rattle.voice.specs.PhaseRun.{offset_by, offset_of}
 use Rattle.voice.proofs.phase_run.offset_of.Goals as goal
-
--- an answer that is known
-at_case : {B : Type 0} (f : Fact (Option Modulated) → B) {r k : ModulatedFact} → r ≡ k → {a : Fact (Option Modulated)} → modulated_says r ≡ a → f (modulated_says k) ≡ f a
-at_case f e h = ap (λ x. f (modulated_says x)) (sym e) ∙ ap f h
 
 -- every answer but the four arms'
 others : (a s scale increment carry : Float) (r : ModulatedFact)
@@ -28,19 +23,19 @@ others a s scale increment carry ModulatedFact.Refused n₀ n₁ n₂ n₃ = ref
 
 pub returns-in-FmThruZero : goal.returns-in-FmThruZero
 unfolding offset_of modulated_says
-returns-in-FmThruZero c = c.fm_thru_zero.ensures ∙ at_case (offset_by _ _ _ _ _) c.in-FmThruZero.is c.modulated-modulated.ensures
+returns-in-FmThruZero c = c.fm_thru_zero.ensures ∙ case_arm modulated_says (offset_by _ _ _ _ _) c.in-FmThruZero.is c.modulated-modulated.ensures
 
 pub returns-in-FmExponential : goal.returns-in-FmExponential
 unfolding offset_of modulated_says
-returns-in-FmExponential c = c.fm_exp.ensures ∙ at_case (offset_by _ _ _ _ _) c.in-FmExponential.is c.modulated-modulated.ensures
+returns-in-FmExponential c = c.fm_exp.ensures ∙ case_arm modulated_says (offset_by _ _ _ _ _) c.in-FmExponential.is c.modulated-modulated.ensures
 
 pub returns-in-FmLinear : goal.returns-in-FmLinear
 unfolding offset_of modulated_says
-returns-in-FmLinear c = c.fm_linear.ensures ∙ at_case (offset_by _ _ _ _ _) c.in-FmLinear.is c.modulated-modulated.ensures
+returns-in-FmLinear c = c.fm_linear.ensures ∙ case_arm modulated_says (offset_by _ _ _ _ _) c.in-FmLinear.is c.modulated-modulated.ensures
 
 pub returns-in-PhaseDistortion : goal.returns-in-PhaseDistortion
 unfolding offset_of modulated_says
-returns-in-PhaseDistortion c = rw c.to_word.ensures (at_case (offset_by _ _ _ _ _) c.in-PhaseDistortion.is c.modulated-modulated.ensures)
+returns-in-PhaseDistortion c = rw c.to_word.ensures (case_arm modulated_says (offset_by _ _ _ _ _) c.in-PhaseDistortion.is c.modulated-modulated.ensures)
 
 pub returns-in_default : goal.returns-in_default
 unfolding offset_of
