@@ -29,12 +29,12 @@ place-at-requires c = let p = c.requires.fact_3 in (omega arith, p.spot.inside, 
 
 pub frame_of-requires : goal.frame_of-requires
 frame_of-requires c = let p = c.requires in record {
-      powers_value_1 = p.fact_1;
-      powers_value_2 = p.fact_3.entries;
-      powers_value_3 = p.fact_3.samples;
-      power0_value_1 = p.fact_2.power0;
-      power0_value_2 = p.fact_2.power1;
-    }
+  powers_value_1 = p.fact_1;
+  powers_value_2 = p.fact_3.entries;
+  powers_value_3 = p.fact_3.samples;
+  power0_value_1 = p.fact_2.power0;
+  power0_value_2 = p.fact_2.power1;
+}
 
 pub returns : goal.returns
 unfolding frame_at

@@ -1,5 +1,5 @@
 -- `render_hosts` meets its contract: what the host frames so far promise is the invariant.
-use Prim.Native.Nat.{◌-◌, ◌*◌}
+use Prim.Native.Nat.{◌*◌}
 use native.Mathlib.Omega.{arith}
 use Rattle.render.specs.Lane.{Lent, inputs_of}
 use Rattle.render.specs.Promises.{lent}

@@ -1,6 +1,6 @@
 -- `render_host` meets its contract: its promise, at the counter, is the invariant.
 use mathlib.Core.Path.{refl}
-use Prim.Native.Nat.{◌-◌, ◌<◌}
+use Prim.Native.Nat.{◌<◌}
 use native.Mathlib.Omega.{arith}
 use lib.ListN.{length, length-set}
 use Rattle.render.specs.Lane.{Lent}

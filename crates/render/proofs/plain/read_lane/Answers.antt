@@ -1,6 +1,6 @@
 -- `read_lane` meets its contract: its promise, at the counter, is the invariant.
 use mathlib.Core.Path.{◌≡◌, refl}
-use Prim.Native.Nat.{◌-◌, ◌<◌}
+use Prim.Native.Nat.{◌<◌}
 use native.Mathlib.Omega.{arith}
 use lib.ListN.{length, length-set}
 use Rattle.render.proofs.PlainLaws.{reads_none, reads_more, word_in, word_near, work_in, work_near}

@@ -1,6 +1,6 @@
 -- `copy_lane` meets its contract.
 use mathlib.Core.Path.{◌≡◌, refl}
-use Prim.Native.Nat.{◌-◌, ◌<◌}
+use Prim.Native.Nat.{◌<◌}
 use native.Mathlib.Omega.{arith}
 use lib.ListN.{length, length-set}
 use Rattle.share.proofs.ShareLaws.{copies_none, copies_more, from_in, from_near, to_in, to_near}
@@ -22,11 +22,11 @@ write-in c =
 
 pub loop-k-preserved : goal.loop-k-preserved
 loop-k-preserved c = (
-      omega (arith, c.loop-k-test.true),
-      rw length-set c.loop-k.invariant.1,
-      rw (c.place-to.ensures, c.place-from.ensures)
-          (copies_more _ _ _ _ c.loop-k.k _ _ c.requires.inside (omega (arith, c.place-to.ensures, write-in (goal.at.loop-k-preserved c).After-place-to)) c.loop-k.invariant.2),
-    )
+  omega (arith, c.loop-k-test.true),
+  rw length-set c.loop-k.invariant.1,
+  rw (c.place-to.ensures, c.place-from.ensures)
+      (copies_more _ _ _ _ c.loop-k.k _ _ c.requires.inside (omega (arith, c.place-to.ensures, write-in (goal.at.loop-k-preserved c).After-place-to)) c.loop-k.invariant.2),
+)
 
 pub returns : goal.returns
 returns c =
