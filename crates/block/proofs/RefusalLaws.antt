@@ -3,7 +3,6 @@
 use mathlib.Core.Path.{◌≡◌, ◌∙◌}
 use mathlib.Core.Bool.{false, ◌||◌}
 use Prim.Native.Nat.{ℕ, ◌≤◌}
-use native.Mathlib.Omega.{arith}
 use lib.ListN.{length}
 use Rattle.limits.specs.Lines.{first_of, number_lines, bad_modes, bad_factor, bad_lanes, bad_range, bad_rate, bad_counts}
 use Rattle.limits.specs.Lengths.{host_length, rendered_length, span_length, curve_length, cycle_length, coefs_length, numbers_length, pairs_length, carry_length, last_length, state_length, shorter}

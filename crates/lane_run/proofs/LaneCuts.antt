@@ -2,15 +2,13 @@
 use mathlib.Core.Path.{◌≡◌, refl, sym, ◌∙◌, ap, ap₂, subst}
 use mathlib.Core.List.{List, [], ◌∷◌, ◌++◌}
 use Prim.Native.Nat.{ℕ, ◌+◌, ◌<◌}
-use native.Mathlib.Omega.{arith}
-use lib.Ieee.{Float, nan}
+use lib.Ieee.{Float}
 use borrow.Author.Tests.{eq-eqb, ne_eqb}
 use Rattle.grid.specs.Functions.{table}
-use Rattle.grid.specs.Cells.{col}
 use Rattle.grid.proofs.EachLaws.{one_others}
 use Rattle.share.specs.Share.{Buffers, columns_of}
 use Rattle.block.specs.Call.{Call, refusal_of, lanes_of}
-use Rattle.cuts.specs.Cuts.{Which, state_of, entering, leaving, Around, Alike, RunA, RunB, end, accept, rows_of, output_of, Demand3}
+use Rattle.cuts.specs.Cuts.{Which, state_of, entering, leaving, Alike, RunB, end, accept, rows_of, output_of, Demand3}
 use Rattle.cuts.proofs.Calls.{refused_rows, still_state}
 use Rattle.cuts.proofs.State.{list_of, state_listed}
 use Rattle.cuts.proofs.Made.{made, met_by}

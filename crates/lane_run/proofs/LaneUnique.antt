@@ -4,8 +4,7 @@ use mathlib.Core.Path.{◌≡◌, refl, sym, ◌∙◌}
 use Prim.Native.Nat.{ℕ}
 use native.Mathlib.Decide.{ℕ_discrete}
 use Rattle.grid.proofs.EachLaws.{each_id, each_same, each_unique}
-use Rattle.share.specs.Share.{columns_of}
-use Rattle.block.specs.Call.{Call, lanes_of, inputs, share_of}
+use Rattle.block.specs.Call.{Call, lanes_of, inputs}
 use Rattle.block.proofs.RefusalLaws.{call_lanes}
 use Rattle.block.proofs.NoFrames.{share_still}
 use Rattle.block.proofs.Unique.{buffers_same, Asked, ended, as_asked}

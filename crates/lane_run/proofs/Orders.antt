@@ -3,7 +3,7 @@
 use mathlib.Core.Path.{◌≡◌, refl, sym, ◌∙◌, ap}
 use mathlib.Core.Bool.{cond}
 use mathlib.Core.List.{List, [], ◌∷◌}
-use Prim.Native.Nat.{ℕ, ◌+◌, ◌*◌, ◌/◌, ◌%◌, ◌<◌, ◌≤◌}
+use Prim.Native.Nat.{ℕ, ◌/◌, ◌%◌, ◌<◌}
 use native.Mathlib.Decide.{ℕ_discrete, dec_lt}
 use native.Mathlib.Nat.{div-add-mod', mod-lt}
 use native.Mathlib.Omega.{arith}
@@ -19,7 +19,7 @@ use Rattle.limits.specs.declared.answers.Answer.{Answer}
 use Rattle.share.specs.Share.{Buffers, Columns, columns_of}
 use Rattle.block.specs.declared.refusal.WriteLengths.{WriteLengths}
 use Rattle.block.specs.Refusal.{block_refusal}
-use Rattle.block.specs.Call.{Call, Meets, call_numbers, read_lengths, write_lengths, refusal_of, lanes_of, share_of}
+use Rattle.block.specs.Call.{Call, call_numbers, read_lengths, write_lengths, refusal_of, lanes_of, share_of}
 use Rattle.block.proofs.RefusalLaws.{call_taken, call_lanes}
 use Rattle.block.proofs.Unique.{buffers_same}
 use Rattle.cuts.specs.Cuts.{Which, buffer}

@@ -1,5 +1,5 @@
 -- `run::run_lanes` meets its contract. The loop's invariant: the lanes passed have had their share.
-use Prim.Native.Nat.{ℕ, ◌<◌, ◌-◌}
+use Prim.Native.Nat.{ℕ, ◌<◌}
 use mathlib.Core.Path.{◌≡◌, subst}
 use native.Mathlib.Omega.{arith}
 use Rattle.render.specs.Lane.{Lent}
