@@ -40,7 +40,7 @@ bounds-inner-at c =
 
 pub reads_of-requires : goal.reads_of-requires
 reads_of-requires c =
-     record {
+    record {
       powers_value_1 = c.requires.fact_1;
       powers_value_2 = table_held c.args.curve.now c.requires.fact_2.entries;
       power0_value_1 = c.power_of-power0.ensures;
@@ -50,7 +50,7 @@ reads_of-requires c =
 pub returns : goal.returns
 unfolding reads_at control0_at control1_at
 returns c =
-     record {
+    record {
       value = rw (
         given c.fm_scale-scale.ensures,
         given c.control_at-control0.ensures,

@@ -10,8 +10,8 @@ inner : (c : Joined-second)
     c.if-second.inner ≡ (if a.second then c.steepest_at-steepest.result else a.span.inner)
 inner c =
     elim c.if-second.branch [
-      then-second w ↦ w.inner-is ∙ sym (taken _ _ w.if-second.true)
-    | else-second w ↦ w.inner-is ∙ sym (left _ _ w.if-second.false)
+      | then-second w ↦ w.inner-is ∙ sym (taken _ _ w.if-second.true)
+      | else-second w ↦ w.inner-is ∙ sym (left _ _ w.if-second.false)
     ]
 
 pub returns-then-in_phase : goal.returns-then-in_phase

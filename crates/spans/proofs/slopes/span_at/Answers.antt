@@ -1,6 +1,6 @@
 -- `slopes::span_at` meets its contract: its steps are the definition's.
 use mathlib.Core.Path.{◌≡◌}
-use Prim.Native.Nat.{◌*◌, ◌+◌, ◌≤◌}
+use Prim.Native.Nat.{◌*◌}
 use native.Mathlib.Omega.{arith}
 use Rattle.floats.specs.Steps.{given}
 use Rattle.spans.specs.Slopes.{rows_in, span_at}

@@ -15,7 +15,7 @@ mapped1 : (c : After-map_slot-list1) → Few c.map_slot-list1.result
 mapped1 c = as_ensured c.map_slot-list1.ensures (mapped_few _ _ _ _ _ _ _ (as_ensured c.start-start.ensures (start_few _)))
 
 mapped0 : (c : After-map_slot-list0) → Few c.map_slot-list0.result
-mapped0 c = 
+mapped0 c =
     let h1 : Few c.map_slot-list1.result = as_ensured c.map_slot-list1.ensures (mapped_few _ _ _ _ _ _ _ (as_ensured c.start-start.ensures (start_few _))) in
     as_ensured c.map_slot-list0.ensures (mapped_few _ _ _ _ _ _ _ h1)
 
@@ -40,8 +40,8 @@ move_on-moved0-requires c = let h = moved1 (goal.at.move_on-moved0-requires c).A
 pub returns : goal.returns
 unfolding list_of
 returns c = record {
-      value = rw (given c.half_width-half.ensures, given c.start-start.ensures, given c.map_slot-list1.ensures, given c.map_slot-list0.ensures, given c.move_on-moved1.ensures, given c.move_on-moved0.ensures, given c.outgoing.ensures);
-      count_bound = 
-          let moved : Few c.move_on-moved0.result.list = as_ensured (ap (λ m. m.list) c.move_on-moved0.ensures) (moved_few _ _ _ _ _ _ (moved1 (goal.at.returns c).After-move_on-moved1)) in
-          rw c.outgoing.ensures (outgoing_few _ moved);
-    }
+  value = rw (given c.half_width-half.ensures, given c.start-start.ensures, given c.map_slot-list1.ensures, given c.map_slot-list0.ensures, given c.move_on-moved1.ensures, given c.move_on-moved0.ensures, given c.outgoing.ensures);
+  count_bound =
+      let moved : Few c.move_on-moved0.result.list = as_ensured (ap (λ m. m.list) c.move_on-moved0.ensures) (moved_few _ _ _ _ _ _ (moved1 (goal.at.returns c).After-move_on-moved1)) in
+      rw c.outgoing.ensures (outgoing_few _ moved);
+}

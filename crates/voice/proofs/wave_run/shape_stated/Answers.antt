@@ -8,8 +8,8 @@ use Rattle.voice.proofs.wave_run.shape_stated.Goals.{Joined-tracks, then-tracks,
 kept : (c : Joined-tracks) → let a = c.args in c.if-tracks.kept ≡ (if tracks a.slot0.mode a.slot1.mode then a.x else a.last)
 kept c =
     elim c.if-tracks.branch [
-      then-tracks w ↦ w.kept-is ∙ sym (taken _ _ (sym c.tracks.ensures ∙ w.if-tracks.true))
-    | else-tracks w ↦ w.kept-is ∙ sym (left _ _ (sym c.tracks.ensures ∙ w.if-tracks.false))
+      | then-tracks w ↦ w.kept-is ∙ sym (taken _ _ (sym c.tracks.ensures ∙ w.if-tracks.true))
+      | else-tracks w ↦ w.kept-is ∙ sym (left _ _ (sym c.tracks.ensures ∙ w.if-tracks.false))
     ]
 
 pub returns : goal.returns
