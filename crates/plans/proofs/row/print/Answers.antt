@@ -1,4 +1,4 @@
--- `plans::row::print` is safe. Assumes what libc declares of read and write.
+-- `plans::row::print` is safe.
 use mathlib.Core.Path.{sym}
 use native.Mathlib.Omega.{arith}
 use lib.Seq.{length-take-le}
