@@ -1,6 +1,5 @@
 -- `probe::probe_powers_run` meets its contract. The invariant is the promise at the counter.
 use mathlib.Core.Path.{refl}
-use Prim.Native.Nat.{◌-◌}
 use native.Mathlib.Omega.{arith}
 use Rattle.floats.specs.Exp2.{entries}
 use Rattle.probe.proofs.Run.{ran_none, ran_more}
@@ -18,6 +17,6 @@ loop-i-preserved c = let l = c.loop-i in (omega arith, l.invariant.1, l.invarian
 
 pub returns : goal.returns
 returns c = record {
-      value = omega arith;
-      ran = c.loop-i.invariant.3;
-    }
+  value = omega arith;
+  ran = c.loop-i.invariant.3;
+}

@@ -13,9 +13,9 @@ returns-then-curve-lt1025 c = rw (lt-ltb _ _ c.if-curve-lt1025.true)
 pub reads-requires : goal.reads-requires
 unfolding entries
 reads-requires c = record {
-      fact_1 = refl;
-      fact_2 = search rules;
-    }
+  fact_1 = refl;
+  fact_2 = search rules;
+}
 
 pub returns : goal.returns
 unfolding reads_or_none

@@ -1,6 +1,6 @@
 -- `probe::probe_reads_run` meets its contract. The invariant is the promise at the counter.
 use mathlib.Core.Path.{refl, subst}
-use Prim.Native.Nat.{ℕ, ◌<◌, ◌-◌}
+use Prim.Native.Nat.{ℕ, ◌<◌}
 use lib.ListN.{length}
 use Rattle.floats.specs.Exp2.{entries}
 use Rattle.probe.specs.Phases.{sample_of}
@@ -25,15 +25,15 @@ bounds-words-i c = (here (goal.at.bounds-words-i c).In-loop-i).word
 
 pub reads-list-requires : goal.reads-list-requires
 reads-list-requires c = record {
-      fact_1 = c.loop-i.invariant.2;
-      fact_2 = (here (goal.at.reads-list-requires c).In-loop-i).drawn;
-    }
+  fact_1 = c.loop-i.invariant.2;
+  fact_2 = (here (goal.at.reads-list-requires c).In-loop-i).drawn;
+}
 
 pub read_sum-requires : goal.read_sum-requires
 read_sum-requires c = record {
-      fact_1 = (here (goal.at.read_sum-requires c).In-loop-i).whole;
-      fact_2 = c.reads-list.ensures.count_bound;
-    }
+  fact_1 = (here (goal.at.read_sum-requires c).In-loop-i).whole;
+  fact_2 = c.reads-list.ensures.count_bound;
+}
 
 pub offset_bounds-out-i : goal.offset_bounds-out-i
 offset_bounds-out-i c = let h = (here (goal.at.offset_bounds-out-i c).In-loop-i).cell in search rules
@@ -47,6 +47,6 @@ loop-i-preserved c = let l = c.loop-i in (omega arith, l.invariant.1, l.invarian
 
 pub returns : goal.returns
 returns c = record {
-      value = omega arith;
-      ran = c.loop-i.invariant.3;
-    }
+  value = omega arith;
+  ran = c.loop-i.invariant.3;
+}

@@ -25,6 +25,6 @@ apply-second-requires c = (c.requires.fact_1, (c.requires.fact_2, (applied c).fe
 pub returns : goal.returns
 unfolding reads_of
 returns c = record {
-      value = search steps depth 12;
-      count_bound = rw c.outgoing.ensures (outgoing_few _ (again (goal.at.returns c).After-apply-second));
-    }
+  value = search steps depth 12;
+  count_bound = rw c.outgoing.ensures (outgoing_few _ (again (goal.at.returns c).After-apply-second));
+}

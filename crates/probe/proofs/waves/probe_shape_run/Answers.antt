@@ -1,8 +1,7 @@
 -- `probe::probe_shape_run` meets its contract. The invariant is the promise at the counter, with the slot's state there.
 use mathlib.Core.Path.{refl}
-use Prim.Native.Nat.{◌-◌}
 use Rattle.floats.specs.Exp2.{entries}
-use Rattle.probe.specs.Waves.{state_after, shape_length, end_of}
+use Rattle.probe.specs.Waves.{shape_length, end_of}
 use Rattle.probe.proofs.Run.{ran_none, ran_more}
 use Rattle.probe.proofs.Shaped.{state_none, state_more, shaped}
 use borrow.Author.Tests.{lt-ltb, le-ltb}
@@ -12,10 +11,10 @@ use Rattle.probe.proofs.waves.probe_shape_run.Goals as goal
 pub returns-then-state-lt2 : goal.returns-then-state-lt2
 unfolding shape_length end_of
 returns-then-state-lt2 c = let h = lt-ltb _ _ c.if-state-lt2.true in record {
-      value = rw h;
-      ran = ran_none _ _;
-      state_after = rw h;
-    }
+  value = rw h;
+  ran = ran_none _ _;
+  state_after = rw h;
+}
 
 pub loop-i-init : goal.loop-i-init
 unfolding entries
