@@ -8,7 +8,7 @@ mod row;
 mod table;
 
 use std::io;
-use std::io::{Print, Read, Stdin, Stdout};
+use std::io::{Print, Read, Stdout};
 use table::{print_heading, print_line};
 use text::{Line, left_over, line_bytes, no_line, with_byte};
 
