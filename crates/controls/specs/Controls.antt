@@ -4,7 +4,7 @@ use Rattle.std.specs.Prelude.{ℕ, ◌+◌, ◌-◌, Bool, true, false, cond, Li
 use Rattle.std.proofs.Math.Option.{Option, some, none}
 use Rattle.std.specs.Float.{nan}
 use Rattle.floats.specs.F32.{◌⊕◌, ◌⊖◌, ◌⊗◌, ◌⊘◌, 0f, 100f, hundredth}
-use Rattle.floats.specs.Steps.{◌>>=◌, if◌then◌else◌}
+use Rattle.floats.specs.Steps.{◌>>=◌, when◌then◌else◌}
 use Rattle.lanes.specs.Lane.{mul_add}
 use Rattle.lanes.specs.Maths.{clamp_of}
 use Rattle.grid.specs.Cells.{column}
@@ -39,12 +39,12 @@ between_rows factor frames xs host sub = do
 
 -- `Amounts::source`, at the rendered frame `sub` of a host frame's `factor`
 unfoldable pub source_at : ℕ → ℕ → List Float → ℕ → ℕ → Float
-source_at factor frames xs host sub = if eqb factor 1 then get_or xs host nan else between_rows factor frames xs host sub
+source_at factor frames xs host sub = when eqb factor 1 then get_or xs host nan else between_rows factor frames xs host sub
 
 -- what a slot hears: of its own signal `last`, otherwise its source; 0 where it has none
 unfoldable pub heard_at : ℕ → ℕ → ℕ → Option (List Float) → Float → ℕ → ℕ → Float
 heard_at mode factor frames none last host sub = 0f
-heard_at mode factor frames (some xs) last host sub = if is_own mode then last else source_at factor frames xs host sub
+heard_at mode factor frames (some xs) last host sub = when is_own mode then last else source_at factor frames xs host sub
 
 abbrev pub is_given : Option (List Float) → Bool
 is_given none = false

@@ -3,7 +3,7 @@ use Rattle.std.specs.Prelude.{ℕ, ◌+◌, ◌-◌, ◌*◌, ◌%◌, ◌^◌, 
 use Rattle.std.specs.Float.Ieee as Ieee
 use Rattle.std.specs.Float.{nan, binary32}
 use Rattle.floats.specs.F32.{◌⊕◌, ◌⊖◌, ◌⊗◌, ◌⊘◌, bits, 0f, 1f, ½f}
-use Rattle.floats.specs.Steps.{◌>>=◌, if◌then◌else◌}
+use Rattle.floats.specs.Steps.{◌>>=◌, when◌then◌else◌}
 use Rattle.floats.specs.Floor.{floor_of}
 use Rattle.floats.specs.Casts.{cast_word, as_signed}
 use Rattle.lanes.specs.Lane.{mul_add, min_of}
@@ -34,7 +34,7 @@ to_word x = do
   down ← floor_of (x ⊕ ½f)
   wrapped ← x ⊖ down
   scaled ← wrapped ⊗ two32
-  if Ieee.le two31 scaled then 2 ^ 31 else cast_word scaled
+  when Ieee.le two31 scaled then 2 ^ 31 else cast_word scaled
 
 -- With 1,024 segments, as every call has: the numbers are 1,024, `segments as f32`, and 1,023, `(segments - 1) as f32`.
 -- A NaN's index is 0 (`Ieee.to_unsigned`, which is `as usize`)

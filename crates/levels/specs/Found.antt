@@ -1,6 +1,6 @@
 -- What the call answers. Definitions only.
 use Rattle.std.specs.Prelude.{ℕ, Bool, not, List, [], ◌∷◌, eqb, Float}
-use Rattle.floats.specs.Steps.{if◌then◌else◌}
+use Rattle.floats.specs.Steps.{when◌then◌else◌}
 use Rattle.limits.specs.Lines.{first_of}
 use Rattle.limits.specs.Lengths.{numbers_length, shorter}
 use Rattle.limits.specs.Search.{some_below, least_below}
@@ -21,10 +21,10 @@ level_refusal mode count = first_of ((not (is_distortion mode), 1) ∷ (shorter 
 
 -- the least amount that serves; 12: none does
 unfoldable pub searched_of : (ℕ → Bool) → Found
-searched_of serves = if some_below amounts serves then accepted (least_below amounts serves) else turned_down 12
+searched_of serves = when some_below amounts serves then accepted (least_below amounts serves) else turned_down 12
 
 unfoldable pub found_of : List Float → ℕ → ℕ → Float → Float → Float → Found
 found_of sk count mode sample wanted tolerance =
-    if eqb (level_refusal mode count) 0
+    when eqb (level_refusal mode count) 0
     then searched_of (within_at sk mode sample wanted tolerance)
     else turned_down (level_refusal mode count)

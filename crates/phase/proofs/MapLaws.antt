@@ -4,7 +4,7 @@ use mathlib.Core.Bool.{Bool, true, false}
 use mathlib.Core.List.{List, [], ◌∷◌}
 use lib.Dec.{eqb}
 use lib.Ieee.{Float}
-use Rattle.floats.specs.Steps.{◌>>=◌, if◌then◌else◌}
+use Rattle.floats.specs.Steps.{◌>>=◌, when◌then◌else◌}
 use Rattle.modes.specs.Choice.{Case, ◌⇒◌, case_of}
 use Rattle.reads.specs.declared.lists.ReadList.{ReadList}
 use Rattle.reads.specs.Reads.{weighted_of, push_of, push_pair}
@@ -23,8 +23,8 @@ unfolding case_of
 case_each P x [] d e h = h
 case_each P x ((k ⇒ v) ∷ cs) d (more p e) h = either P (eqb x k) v (case_of x cs d) (λ t. p) (case_each P x cs d e h)
 
-if_each : (P : ReadList → Type 0) (t : Bool) (x y : ReadList) → P x → P y → P (if t then x else y)
-unfolding if◌then◌else◌
+if_each : (P : ReadList → Type 0) (t : Bool) (x y : ReadList) → P x → P y → P (when t then x else y)
+unfolding when◌then◌else◌
 if_each P true x y p q = p
 if_each P false x y p q = q
 

@@ -8,7 +8,7 @@ use lib.Dec.{ltb}
 use lib.ListN.{set}
 use lib.Ieee.{Float}
 use borrow.Author.Tests.{ltb-false}
-use Rattle.floats.specs.Steps.{if◌then◌else◌}
+use Rattle.floats.specs.Steps.{when◌then◌else◌}
 use Rattle.reads.specs.declared.lists.ReadList.{ReadList}
 use Rattle.reads.specs.Reads.{start_of, push_of}
 use Rattle.phase.specs.declared.map.Slot.{Slot}
@@ -42,6 +42,6 @@ module _ (sk ak table : List Float) (slot : Slot) (a h : Float) where
   mapped_some ws gs r (suc n) l = map_some _ _ _
 
   pub some_if : (on : Bool) (r : ReadList) → Some r → Some (apply_if on sk ak table slot a h r)
-  unfolding apply_if apply_of if◌then◌else◌
+  unfolding apply_if apply_of when◌then◌else◌
   some_if true r p = mapped_some r.word r.gain (emptied r) r.count p.some
   some_if false r p = p

@@ -7,7 +7,7 @@ use lib.Dec.{eqb}
 use lib.ListN.{replicate}
 use lib.Ieee.{Float}
 use Rattle.floats.specs.F32.{1f, ◌⊕◌, ◌⊗◌}
-use Rattle.floats.specs.Steps.{◌>>=◌, if◌then◌else◌}
+use Rattle.floats.specs.Steps.{◌>>=◌, when◌then◌else◌}
 use Rattle.reads.specs.declared.lists.ReadList.{ReadList}
 use Rattle.reads.specs.declared.branches.Branches.{Branches}
 use Rattle.reads.specs.Reads.{start_of, empty_of, weighted_of, push_of, move_first, shift_of, outgoing_of, sum_to, read_sum}
@@ -26,19 +26,19 @@ none like plain = record { word = replicate 4 like; gain = replicate 4 1f; count
 
 -- ---- branches by the tests of their kind, of 0 and of 2
 abbrev added : Bool → Bool → ℕ → Float → ℕ → Float → ReadList → ReadList
-added t₀ t₂ w g v k out = let one = push_of (if t₀ then out else weighted_of out) w g in if t₂ then push_of one v k else one
+added t₀ t₂ w g v k out = let one = push_of (when t₀ then out else weighted_of out) w g in when t₂ then push_of one v k else one
 
 opened : (b : Branches) (out : ReadList) → appended b out ≡ added (eqb b.kind 0) (eqb b.kind 2) b.word0 b.gain0 b.word1 b.gain1 out
 unfolding appended ◌>>=◌
 opened b out = refl
 
 abbrev after : List Float → Bool → ℕ → Bool → ℕ → Float → Float → Float
-after cycle moves offset t₂ v k first = if t₂ then first ⊕ k ⊗ read_at cycle moves offset v else first
+after cycle moves offset t₂ v k first = when t₂ then first ⊕ k ⊗ read_at cycle moves offset v else first
 
 one_by : (cycle : List Float) (moves : Bool) (offset like : ℕ) (plain t₀ t₂ : Bool) (w : ℕ) (g : Float) (v : ℕ) (k : Float)
     → sum_of cycle moves offset (added t₀ t₂ w g v k (none like plain))
-    ≡ (if plain && t₀ then read_at cycle moves offset w else after cycle moves offset t₂ v k (g ⊗ read_at cycle moves offset w))
-unfolding if◌then◌else◌ shift_if shift_of move_first push_of weighted_of outgoing_of read_sum sum_to read_at
+    ≡ (when plain && t₀ then read_at cycle moves offset w else after cycle moves offset t₂ v k (g ⊗ read_at cycle moves offset w))
+unfolding when◌then◌else◌ shift_if shift_of move_first push_of weighted_of outgoing_of read_sum sum_to read_at
 one_by cycle true offset like true true true w g v k = refl
 one_by cycle true offset like true true false w g v k = refl
 one_by cycle true offset like true false true w g v k = refl
@@ -63,10 +63,10 @@ one_sum cycle moves offset like plain b = rw (opened b (none like plain)) (one_b
 
 -- ---- branches appended to a list whose gains count
 abbrev onto : Bool → ℕ → Float → ℕ → Float → ReadList → ReadList
-onto t₂ w g v k out = if t₂ then push_of (push_of out w g) v k else push_of out w g
+onto t₂ w g v k out = when t₂ then push_of (push_of out w g) v k else push_of out w g
 
 counted : (t₀ t₂ : Bool) (w : ℕ) (g : Float) (v : ℕ) (k : Float) (out : ReadList) → weighted_of out ≡ out → added t₀ t₂ w g v k out ≡ onto t₂ w g v k out
-unfolding if◌then◌else◌
+unfolding when◌then◌else◌
 counted true t₂ w g v k out e = refl
 counted false t₂ w g v k out e = rw e
 
@@ -78,14 +78,14 @@ unfolding weighted_of
 none_counted like = refl
 
 onto_counted : (like : ℕ) (t₂ : Bool) (w : ℕ) (g : Float) (v : ℕ) (k : Float) → weighted_of (onto t₂ w g v k (none like false)) ≡ onto t₂ w g v k (none like false)
-unfolding if◌then◌else◌ weighted_of push_of
+unfolding when◌then◌else◌ weighted_of push_of
 onto_counted like true w g v k = refl
 onto_counted like false w g v k = refl
 
 two_by : (cycle : List Float) (moves : Bool) (offset like : ℕ) (s₂ t₂ : Bool) (w : ℕ) (g : Float) (v : ℕ) (k : Float) (w' : ℕ) (g' : Float) (v' : ℕ) (k' : Float)
     → sum_of cycle moves offset (onto t₂ w' g' v' k' (onto s₂ w g v k (none like false)))
     ≡ after cycle moves offset t₂ v' k' (after cycle moves offset s₂ v k (g ⊗ read_at cycle moves offset w) ⊕ g' ⊗ read_at cycle moves offset w')
-unfolding if◌then◌else◌ shift_if shift_of move_first push_of outgoing_of read_sum sum_to read_at
+unfolding when◌then◌else◌ shift_if shift_of move_first push_of outgoing_of read_sum sum_to read_at
 two_by cycle true offset like true true w g v k w' g' v' k' = refl
 two_by cycle true offset like true false w g v k w' g' v' k' = refl
 two_by cycle true offset like false true w g v k w' g' v' k' = refl
@@ -106,7 +106,7 @@ two_sum cycle moves offset like a b =
 module _ (sk ak table : List Float) (slot : Slot) (a h : Float) where
   -- on the one read at `word`
   started_by : (on : Bool) (word : ℕ) → apply_if on sk ak table slot a h (start_of word) ≡ map_if on sk ak table slot a h word (none word true)
-  unfolding if◌then◌else◌ apply_if map_if apply_of mapped emptied empty_of start_of push_of
+  unfolding when◌then◌else◌ apply_if map_if apply_of mapped emptied empty_of start_of push_of
   started_by true word = refl
   started_by false word = refl
 
@@ -114,7 +114,7 @@ module _ (sk ak table : List Float) (slot : Slot) (a h : Float) where
   started on word b m = started_by on word ∙ sym (m (none word true))
 
   one_mapped : (t₀ : Bool) (like w : ℕ) (g : Float) (v : ℕ) (k : Float) → apply_of sk ak table slot a h (added t₀ false w g v k (none like true)) ≡ map_of sk ak table slot a h w g (none w t₀)
-  unfolding if◌then◌else◌ apply_of mapped emptied empty_of push_of weighted_of
+  unfolding when◌then◌else◌ apply_of mapped emptied empty_of push_of weighted_of
   one_mapped true like w g v k = refl
   one_mapped false like w g v k = refl
 
@@ -126,7 +126,7 @@ module _ (sk ak table : List Float) (slot : Slot) (a h : Float) where
 
   two_mapped : (like w : ℕ) (g : Float) (v : ℕ) (k : Float)
       → apply_of sk ak table slot a h (added false true w g v k (none like true)) ≡ map_of sk ak table slot a h v k (map_of sk ak table slot a h w g (none w false))
-  unfolding if◌then◌else◌ apply_of mapped emptied empty_of push_of weighted_of
+  unfolding when◌then◌else◌ apply_of mapped emptied empty_of push_of weighted_of
   two_mapped like w g v k = refl
 
   -- on two
@@ -143,7 +143,7 @@ module _ (cycle : List Float) (moves : Bool) (offset : ℕ) (sk ak table : List 
 
   -- slot 0 is off
   pub sum_off : (on0 : Bool) (reads : Branches) → not on0 ≡ true → Makes reads (map_if on1 sk ak table slot1 a1 h1 word) → sum_one cycle moves offset true reads ≡ sum on0
-  unfolding apply_if if◌then◌else◌
+  unfolding apply_if when◌then◌else◌
   sum_off true reads e m = absurd (true≢false (sym e))
   sum_off false reads e m = sym (ap (sum_of cycle moves offset) (started sk ak table slot1 a1 h1 on1 word reads m) ∙ one_sum cycle moves offset word true reads)
 
@@ -151,7 +151,7 @@ module _ (cycle : List Float) (moves : Bool) (offset : ℕ) (sk ak table : List 
   pub sum_one_lem : (on0 : Bool) (reads first : Branches) → not on0 ≡ false → eqb reads.kind 2 ≡ false
       → Makes reads (map_if on1 sk ak table slot1 a1 h1 word) → Makes first (map_of sk ak table slot0 a0 h0 reads.word0 reads.gain0)
       → sum_one cycle moves offset (eqb reads.kind 0) first ≡ sum on0
-  unfolding apply_if if◌then◌else◌
+  unfolding apply_if when◌then◌else◌
   sum_one_lem true reads first e k m n =
       sym
       (ap (λ (list : ReadList). sum_of cycle moves offset (apply_of sk ak table slot0 a0 h0 list)) (started sk ak table slot1 a1 h1 on1 word reads m)
@@ -164,7 +164,7 @@ module _ (cycle : List Float) (moves : Bool) (offset : ℕ) (sk ak table : List 
       → Makes reads (map_if on1 sk ak table slot1 a1 h1 word)
       → Makes first (map_of sk ak table slot0 a0 h0 reads.word0 reads.gain0) → Makes second (map_of sk ak table slot0 a0 h0 reads.word1 reads.gain1)
       → sum_two cycle moves offset first second ≡ sum on0
-  unfolding apply_if if◌then◌else◌
+  unfolding apply_if when◌then◌else◌
   sum_two_lem true reads first second e k m n p =
       sym
       (ap (λ (list : ReadList). sum_of cycle moves offset (apply_of sk ak table slot0 a0 h0 list)) (started sk ak table slot1 a1 h1 on1 word reads m)
@@ -175,7 +175,7 @@ module _ (cycle : List Float) (moves : Bool) (offset : ℕ) (sk ak table : List 
 -- ---- all products: the same, by the branches, of reads that don't move
 all_by : (cycle : List Float) (like : ℕ) (plain t₀ t₂ : Bool) (w : ℕ) (g : Float) (v : ℕ) (k : Float)
     → all_products cycle (added t₀ t₂ w g v k (none like plain)) ≡ after cycle false 0 t₂ v k (g ⊗ read_at cycle false 0 w)
-unfolding if◌then◌else◌ push_of weighted_of all_products sum_to read_at
+unfolding when◌then◌else◌ push_of weighted_of all_products sum_to read_at
 all_by cycle like plain true true w g v k = refl
 all_by cycle like plain true false w g v k = refl
 all_by cycle like plain false true w g v k = refl
@@ -188,7 +188,7 @@ one_products cycle like plain b = rw (opened b (none like plain)) (all_by cycle 
 all_two_by : (cycle : List Float) (like : ℕ) (s₂ t₂ : Bool) (w : ℕ) (g : Float) (v : ℕ) (k : Float) (w' : ℕ) (g' : Float) (v' : ℕ) (k' : Float)
     → all_products cycle (onto t₂ w' g' v' k' (onto s₂ w g v k (none like false)))
     ≡ after cycle false 0 t₂ v' k' (after cycle false 0 s₂ v k (g ⊗ read_at cycle false 0 w) ⊕ g' ⊗ read_at cycle false 0 w')
-unfolding if◌then◌else◌ push_of all_products sum_to read_at
+unfolding when◌then◌else◌ push_of all_products sum_to read_at
 all_two_by cycle like true true w g v k w' g' v' k' = refl
 all_two_by cycle like true false w g v k w' g' v' k' = refl
 all_two_by cycle like false true w g v k w' g' v' k' = refl
@@ -206,7 +206,7 @@ module _ (cycle sk ak table : List Float) (slot0 : Slot) (a0 h0 : Float) (on1 : 
 
   -- slot 0 is off
   pub every_off : (on0 : Bool) (reads : Branches) → not on0 ≡ true → Makes reads (map_if on1 sk ak table slot1 a1 h1 word) → products_of cycle false 0 reads ≡ every on0
-  unfolding apply_if if◌then◌else◌
+  unfolding apply_if when◌then◌else◌
   every_off true reads e m = absurd (true≢false (sym e))
   every_off false reads e m = sym (ap (all_products cycle) (started sk ak table slot1 a1 h1 on1 word reads m) ∙ one_products cycle word true reads)
 
@@ -214,7 +214,7 @@ module _ (cycle sk ak table : List Float) (slot0 : Slot) (a0 h0 : Float) (on1 : 
   pub every_one : (on0 : Bool) (reads first : Branches) → not on0 ≡ false → eqb reads.kind 2 ≡ false
       → Makes reads (map_if on1 sk ak table slot1 a1 h1 word) → Makes first (map_of sk ak table slot0 a0 h0 reads.word0 reads.gain0)
       → products_of cycle false 0 first ≡ every on0
-  unfolding apply_if if◌then◌else◌
+  unfolding apply_if when◌then◌else◌
   every_one true reads first e k m n =
       sym
       (ap (λ (list : ReadList). all_products cycle (apply_of sk ak table slot0 a0 h0 list)) (started sk ak table slot1 a1 h1 on1 word reads m)
@@ -227,7 +227,7 @@ module _ (cycle sk ak table : List Float) (slot0 : Slot) (a0 h0 : Float) (on1 : 
       → Makes reads (map_if on1 sk ak table slot1 a1 h1 word)
       → Makes first (map_of sk ak table slot0 a0 h0 reads.word0 reads.gain0) → Makes second (map_of sk ak table slot0 a0 h0 reads.word1 reads.gain1)
       → sum_two cycle false 0 first second ≡ every on0
-  unfolding apply_if if◌then◌else◌
+  unfolding apply_if when◌then◌else◌
   every_two true reads first second e k m n p =
       sym
       (ap (λ (list : ReadList). all_products cycle (apply_of sk ak table slot0 a0 h0 list)) (started sk ak table slot1 a1 h1 on1 word reads m)

@@ -8,7 +8,7 @@ use native.Mathlib.Omega.{arith}
 use lib.ListN.{length, replicate, length-replicate}
 use lib.Ieee.{Float}
 use Rattle.floats.specs.F32.{0f}
-use Rattle.floats.specs.Steps.{◌>>=◌, if◌then◌else◌}
+use Rattle.floats.specs.Steps.{◌>>=◌, when◌then◌else◌}
 use Rattle.lanes.specs.Numbers.{rust_numbers}
 use Rattle.modes.specs.Choice.{case_of}
 use Rattle.modes.specs.Table.{stage_of, modulated_of}
@@ -50,7 +50,7 @@ odd_even character = record { mode = 16; character = character }
 -- two reads of one, and four of two
 list_four : (sk ak curve : List Float) (character0 character1 : Float) (factor : ℕ) (scale : Float) (control0 control1 : Control) (inner : Float) (word step : ℕ) (fm0 fm1 : Float)
     → (reads_of sk ak curve (odd_even character0) (odd_even character1) factor scale control0 control1 inner word step fm0 fm1).reads.count ≡ 4
-unfolding reads_of list_of map_slot moved_of in_phase is_modulated apply_of mapped emptied empty_of start_of map_of case_of odd_even_map weighted_of push_of outgoing_of stage_of modulated_of ◌>>=◌ if◌then◌else◌
+unfolding reads_of list_of map_slot moved_of in_phase is_modulated apply_of mapped emptied empty_of start_of map_of case_of odd_even_map weighted_of push_of outgoing_of stage_of modulated_of ◌>>=◌ when◌then◌else◌
 list_four sk ak curve character0 character1 factor scale control0 control1 inner word step fm0 fm1 = refl
 
 -- ---- a lane, by any count that is four where a list has four reads

@@ -7,7 +7,7 @@ use native.Mathlib.Nat.{mul_assoc, mul_comm}
 use native.Mathlib.Omega.{arith}
 use lib.ListN.{get_or}
 use lib.Ieee.{Float}
-use Rattle.floats.specs.Steps.{◌>>=◌, if◌then◌else◌}
+use Rattle.floats.specs.Steps.{◌>>=◌, when◌then◌else◌}
 use Rattle.reads.specs.declared.lists.LaneReads.{LaneReads}
 use Rattle.reads.specs.Reads.{one_read, read_sum}
 use Rattle.reads.proofs.Few.{outgoing_few, start_few}
@@ -42,8 +42,8 @@ one_few : (word : ℕ) → (one_read word).count ≤ 4
 unfolding one_read
 one_few word = omega arith
 
-either : (P : Reads → Type 0) (t : Bool) (x y : Reads) → P x → P y → P (if t then x else y)
-unfolding if◌then◌else◌
+either : (P : Reads → Type 0) (t : Bool) (x y : Reads) → P x → P y → P (when t then x else y)
+unfolding when◌then◌else◌
 either P true x y p q = p
 either P false x y p q = q
 

@@ -6,7 +6,7 @@ use Prim.Native.Nat.{ℕ}
 use lib.ListN.{length}
 use lib.Ieee.{Float}
 use Rattle.floats.specs.F32.{◌⊗◌, ¼f}
-use Rattle.floats.specs.Steps.{◌>>=◌, if◌then◌else◌, steps}
+use Rattle.floats.specs.Steps.{◌>>=◌, when◌then◌else◌, steps}
 use Rattle.grid.proofs.TableLaws.{length_table}
 use Rattle.lanes.specs.declared.maths.Numbers.{Numbers}
 use Rattle.phase.specs.declared.map.Slot.{Slot}
@@ -52,8 +52,8 @@ settled_by sk slot a increment harmonic k g xs ys eh ek eg e =
 
 -- ---- how long a picture is
 
-length_if : (t : Bool) (xs ys : List Float) (n : ℕ) → length xs ≡ n → length ys ≡ n → length (if t then xs else ys) ≡ n
-unfolding if◌then◌else◌
+length_if : (t : Bool) (xs ys : List Float) (n : ℕ) → length xs ≡ n → length ys ≡ n → length (when t then xs else ys) ≡ n
+unfolding when◌then◌else◌
 length_if true xs ys n h k = h
 length_if false xs ys n h k = k
 

@@ -6,7 +6,7 @@ use mathlib.Core.List.{List}
 use lib.Dec.{eqb}
 use lib.Ieee.{Float}
 use Rattle.floats.specs.F32.{◌⊗◌, 1f}
-use Rattle.floats.specs.Steps.{◌>>=◌, if◌then◌else◌}
+use Rattle.floats.specs.Steps.{◌>>=◌, when◌then◌else◌}
 use Rattle.modes.specs.Mode.{number_of, RemapDrawn, RemapMirrored, RemapQuad}
 use Rattle.modes.specs.Choice.{case_of}
 use Rattle.limits.proofs.LineLaws.{or_false}
@@ -54,7 +54,7 @@ summed sk ak curve cycle map0 map1 word x s0 s1 e = rw (set_on map0 s0, set_on m
 -- where neither slot is in the phase stage, the one read
 pub plain_point : (sk ak curve cycle : List Float) (slot0 : Slot) (a0 h0 : Float) (slot1 : Slot) (a1 h1 : Float) (word : ℕ) → in_phase slot0.mode ≡ false → in_phase slot1.mode ≡ false
     → 1f ⊗ cycle_at cycle word ≡ point_of sk ak curve cycle slot0 a0 h0 slot1 a1 h1 word
-unfolding point_of drawn_reads apply_if start_of all_products sum_to if◌then◌else◌ ◌>>=◌
+unfolding point_of drawn_reads apply_if start_of all_products sum_to when◌then◌else◌ ◌>>=◌
 plain_point sk ak curve cycle slot0 a0 h0 slot1 a1 h1 word e0 e1 = rw (e0, e1)
 
 -- ---- a slope that does not go by the curve

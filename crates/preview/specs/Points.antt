@@ -3,7 +3,7 @@ use Rattle.std.specs.Prelude.{ℕ, ◌*◌, ◌/◌, ◌^◌, ◌≡◌, List, p
 use Rattle.std.specs.Float.Ieee as Ieee
 use Rattle.std.specs.Float.{binary32}
 use Rattle.floats.specs.F32.{◌⊘◌, 0f, 1f, 100f}
-use Rattle.floats.specs.Steps.{◌>>=◌, if◌then◌else◌}
+use Rattle.floats.specs.Steps.{◌>>=◌, when◌then◌else◌}
 use Rattle.lanes.specs.Maths.{clamp_of}
 use Rattle.curve.specs.Curve.{steepest_of}
 use Rattle.reads.specs.declared.lists.ReadList.{ReadList}
@@ -33,7 +33,7 @@ pub record Steepest (mode : ℕ) (curve : List Float) (s : Float) : Type 0 where
 
 -- slot 1's steepest slope, and 1 where it isn't in the phase stage
 unfoldable pub inner_of : ℕ → Float → List Float → Float
-inner_of mode a curve = if in_phase mode then stretch_of mode a (steepest_of curve) else 1f
+inner_of mode a curve = when in_phase mode then stretch_of mode a (steepest_of curve) else 1f
 
 -- what of a slot's map goes by no point; h is its half width
 unfoldable pub map_setting : Slot → Float → Float → MapSetting

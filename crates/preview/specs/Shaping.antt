@@ -2,7 +2,7 @@
 use Rattle.std.specs.Prelude.{ℕ, Bool, true, false, not, ◌&&◌, List, length, get_or, Float}
 use Rattle.std.proofs.Math.Option.{Option, some, none}
 use Rattle.std.specs.Float.{nan}
-use Rattle.floats.specs.Steps.{◌>>=◌, if◌then◌else◌}
+use Rattle.floats.specs.Steps.{◌>>=◌, when◌then◌else◌}
 use Rattle.grid.specs.Functions.{table}
 use Rattle.modes.specs.Facts.{Fact, given, refused, Source}
 use Rattle.modes.specs.Table.{source_of}
@@ -39,6 +39,6 @@ settled_of sk slot a increment xs = do
 -- a slot in the wave stage; one that reads a source does nothing, as in a run where its source is absent
 unfoldable pub shaped_of : List Float → Slot → Float → Float → List Float → List Float
 shaped_of sk slot a increment xs =
-    if in_wave slot.mode && not (has_source slot.mode)
-    then (if is_filter slot.mode then settled_of sk slot a increment xs else distorted_of sk slot.mode a xs)
+    when in_wave slot.mode && not (has_source slot.mode)
+    then (when is_filter slot.mode then settled_of sk slot a increment xs else distorted_of sk slot.mode a xs)
     else xs

@@ -1,6 +1,6 @@
 -- What a map makes of one read, by the list that it is appended to. Definitions only.
 use Rattle.std.specs.Prelude.{ℕ, ◌≡◌, eqb, Float}
-use Rattle.floats.specs.Steps.{◌>>=◌, if◌then◌else◌}
+use Rattle.floats.specs.Steps.{◌>>=◌, when◌then◌else◌}
 use Rattle.lanes.specs.Lane.{any_of}
 use Rattle.reads.specs.declared.lists.ReadList.{ReadList}
 use Rattle.reads.specs.declared.branches.Branches.{Branches}
@@ -18,13 +18,13 @@ kind_both = 2
 
 unfoldable pub appended : Branches → ReadList → ReadList
 appended b out = do
-  out₁ ← if eqb b.kind kind_one then out else weighted_of out
+  out₁ ← when eqb b.kind kind_one then out else weighted_of out
   out₂ ← push_of out₁ b.word0 b.gain0
-  if eqb b.kind kind_both then push_of out₂ b.word1 b.gain1 else out₂
+  when eqb b.kind kind_both then push_of out₂ b.word1 b.gain1 else out₂
 
 -- a pair's kind, by the weight of its second
 unfoldable pub kind_of : Float → ℕ
-kind_of weight = if any_of weight then kind_both else kind_weighted
+kind_of weight = when any_of weight then kind_both else kind_weighted
 
 -- appended to any list, the branches do what f does to it
 abbrev pub Makes : Branches → (ReadList → ReadList) → Type 0

@@ -3,7 +3,7 @@ use Rattle.std.specs.Prelude.{ℕ, zero, suc, ◌+◌, ◌-◌, ◌/◌, ◌%◌
 use Rattle.std.specs.Float.Ieee as Ieee
 use Rattle.std.specs.Float.{nan, binary32}
 use Rattle.floats.specs.F32.{◌⊕◌, ◌⊖◌, ◌⊗◌, ◌⊘◌, bits, 1f, ½f}
-use Rattle.floats.specs.Steps.{◌>>=◌, if◌then◌else◌}
+use Rattle.floats.specs.Steps.{◌>>=◌, when◌then◌else◌}
 use Rattle.lanes.specs.Lane.{any_of}
 use Rattle.lanes.specs.Maths.{above_of, pick_of}
 use Rattle.lanes.specs.Word.{add_words, pick_word}
@@ -46,7 +46,7 @@ push_pair r a wa b gain = do
   secondWeight ← 1f ⊖ firstWeight
   r₁ ← weighted_of r
   r₂ ← push_of r₁ first (firstWeight ⊗ gain)
-  if any_of secondWeight then push_of r₂ second (secondWeight ⊗ gain) else r₂
+  when any_of secondWeight then push_of r₂ second (secondWeight ⊗ gain) else r₂
 
 -- the first n words moved on by the offset
 unfoldable pub move_first : ℕ → ℕ → List ℕ → List ℕ

@@ -3,7 +3,7 @@ use Rattle.std.specs.Prelude.{◌≡◌, cond, ◌||◌, List, ℕ, zero, suc, �
 use Rattle.std.specs.Float.Ieee as Ieee
 use Rattle.std.specs.Float.{nan}
 use Rattle.floats.specs.F32.{◌⊕◌, ◌⊘◌, 0f, 1f}
-use Rattle.floats.specs.Steps.{◌>>=◌, if◌then◌else◌}
+use Rattle.floats.specs.Steps.{◌>>=◌, when◌then◌else◌}
 use Rattle.lanes.specs.Lane.{max_of}
 use Rattle.grid.specs.Cells.{column}
 use Rattle.voice.specs.PhaseRun.{whole}
@@ -23,7 +23,7 @@ span_of factor first frame = (first + frame / factor) / sub_block
 -- if added <= 0.0 || increment == 0 { return steepest }
 unfoldable pub faster_by : Float → Float → ℕ → Float
 faster_by steepest added step =
-    if Ieee.le added 0f || eqb step 0 then steepest else max_of steepest ((whole step ⊕ added) ⊘ whole step)
+    when Ieee.le added 0f || eqb step 0 then steepest else max_of steepest ((whole step ⊕ added) ⊘ whole step)
 
 -- `stretch` and `add` are the lane's columns; asked for none, it looks at its first frame
 unfoldable pub faster_of : ℕ → ℕ → List Float → List Float → ℕ → ℕ → ℕ → Float

@@ -3,7 +3,7 @@ use Rattle.std.specs.Prelude.{ℕ, zero, suc, ◌+◌, ◌-◌, ◌*◌, min, Bo
 use Rattle.std.proofs.Math.Option.{Option, some, none}
 use Rattle.std.specs.Float.{nan}
 use Rattle.floats.specs.F32.{◌⊕◌, ◌⊖◌, ◌⊗◌, ◌⊘◌, bits, 0f, 1f, 100f, ½f}
-use Rattle.floats.specs.Steps.{◌>>=◌, if◌then◌else◌}
+use Rattle.floats.specs.Steps.{◌>>=◌, when◌then◌else◌}
 use Rattle.floats.specs.Sign.{abs_of}
 use Rattle.lanes.specs.Lane.{min_of, max_of}
 use Rattle.lanes.specs.Word.{two32}
@@ -105,12 +105,12 @@ add_of mode b (some xs) from k factor perHertz add = do
 -- one slot's share of a sub-block; slot 1's slope is also `inner`
 unfoldable pub slot_span : Bool → ℕ → ℕ → Float → Float → Float → Option (List Float) → Option (List Float) → ℕ → ℕ → Span → Span
 slot_span second mode factor perHertz curve base modulation source from k span =
-    if in_phase mode
+    when in_phase mode
     then (do
       b ← bounds_of base modulation from k
       steepest ← steepest_at mode curve b
       add ← add_of mode b source from k factor perHertz span.add
-      record { inner = if second then steepest else span.inner; stretch = span.stretch ⊗ steepest; add = add })
+      record { inner = when second then steepest else span.inner; stretch = span.stretch ⊗ steepest; add = add })
     else span
 
 -- ---- both slots
@@ -119,7 +119,7 @@ unfoldable pub distorts : ℕ → ℕ → Bool
 distorts mode0 mode1 = is_distortion mode0 || is_distortion mode1
 
 unfoldable pub start_span : ℕ → ℕ → ℕ → Span
-start_span mode0 mode1 factor = record { inner = 1f; stretch = if distorts mode0 mode1 then whole factor else 1f; add = 0f }
+start_span mode0 mode1 factor = record { inner = 1f; stretch = when distorts mode0 mode1 then whole factor else 1f; add = 0f }
 
 -- sub-block s of a lane: slot 1, then slot 0. `curve` is the steepest slope of the lent curve
 unfoldable pub span_at : ℕ → ℕ → ℕ → ℕ → ℕ → Float → Controls → ℕ → Span

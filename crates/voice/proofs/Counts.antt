@@ -4,7 +4,7 @@ use mathlib.Core.Path.{◌≡◌, sym, subst}
 use mathlib.Core.Bool.{Bool, true, false}
 use mathlib.Core.List.{List}
 use lib.Ieee.{Float}
-use Rattle.floats.specs.Steps.{◌>>=◌, if◌then◌else◌}
+use Rattle.floats.specs.Steps.{◌>>=◌, when◌then◌else◌}
 use Rattle.reads.specs.declared.lists.ReadList.{ReadList}
 use Rattle.reads.proofs.Few.{Few, shift_few}
 use Rattle.phase.specs.declared.map.Slot.{Slot}
@@ -13,8 +13,8 @@ use Rattle.voice.specs.declared.control.Control.{Control}
 use Rattle.voice.specs.declared.phase_run.Moved.{Moved}
 use Rattle.voice.specs.PhaseRun.{map_slot, moved_of}
 
-either : {A : Type 0} (P : A → Type 0) (b : Bool) {x y : A} → P x → P y → P (if b then x else y)
-unfolding if◌then◌else◌
+either : {A : Type 0} (P : A → Type 0) (b : Bool) {x y : A} → P x → P y → P (when b then x else y)
+unfolding when◌then◌else◌
 either P true p q = p
 either P false p q = q
 

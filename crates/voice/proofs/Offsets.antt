@@ -5,7 +5,7 @@ use mathlib.Core.Path.{◌≡◌, refl}
 use mathlib.Core.Bool.{Bool, true, false}
 use mathlib.Core.List.{List, [], ◌∷◌}
 use lib.Ieee.{Float}
-use Rattle.floats.specs.Steps.{◌>>=◌, if◌then◌else◌}
+use Rattle.floats.specs.Steps.{◌>>=◌, when◌then◌else◌}
 use Rattle.lanes.specs.Word.{add_words}
 use Rattle.reads.specs.declared.lists.ReadList.{ReadList}
 use Rattle.reads.specs.Reads.{move_first, shift_of}
@@ -29,17 +29,17 @@ unfolding shift_of
 shift_shift r a b = rw (move_move a b (max r.count 1) r.word)
 
 abbrev moved : Bool → Offset → ReadList → Float → Moved
-moved t o r carry = if t then record { list = shift_of r o.word; carry = o.carry } else record { list = r; carry = carry }
+moved t o r carry = when t then record { list = shift_of r o.word; carry = o.carry } else record { list = r; carry = carry }
 
 in_order : (t₀ t₁ : Bool) (o₀ o₁ : Offset) (r : ReadList) (fm0 fm1 : Float) → (moved t₀ o₀ (moved t₁ o₁ r fm1).list fm0).list ≡ (moved t₁ o₁ (moved t₀ o₀ r fm0).list fm1).list
-unfolding if◌then◌else◌
+unfolding when◌then◌else◌
 in_order true true o₀ o₁ r fm0 fm1 = shift_shift r o₀.word o₁.word
 in_order true false o₀ o₁ r fm0 fm1 = refl
 in_order false true o₀ o₁ r fm0 fm1 = refl
 in_order false false o₀ o₁ r fm0 fm1 = refl
 
 same_carry : (t : Bool) (o : Offset) (r s : ReadList) (carry : Float) → (moved t o r carry).carry ≡ (moved t o s carry).carry
-unfolding if◌then◌else◌
+unfolding when◌then◌else◌
 same_carry true o r s carry = refl
 same_carry false o r s carry = refl
 

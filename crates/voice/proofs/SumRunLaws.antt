@@ -6,7 +6,7 @@ use mathlib.Core.Bool.{Bool, true, false, ◌||◌}
 use mathlib.Core.List.{List, [], ◌∷◌}
 use lib.Ieee.{Float}
 use Rattle.floats.specs.F32.{◌⊗◌}
-use Rattle.floats.specs.Steps.{◌>>=◌, if◌then◌else◌, left}
+use Rattle.floats.specs.Steps.{◌>>=◌, when◌then◌else◌, left}
 use Rattle.lanes.specs.Word.{add_words}
 use Rattle.reads.specs.declared.lists.ReadList.{ReadList}
 use Rattle.reads.specs.Reads.{start_of, move_first, shift_of, outgoing_of, one_read, cycle_at, read_sum}
@@ -55,19 +55,19 @@ unfolding shift_of
 shift_as r a b e = rw (move_as a b e (max r.count 1) r.word)
 
 abbrev moved : Bool → Offset → ReadList → Float → Moved
-moved t o r carry = if t then record { list = shift_of r o.word; carry = o.carry } else record { list = r; carry = carry }
+moved t o r carry = when t then record { list = shift_of r o.word; carry = o.carry } else record { list = r; carry = carry }
 
 abbrev slid : Bool → Offset → Float → Slide
-slid t o carry = if t then record { moves = true; word = o.word; carry = o.carry } else record { moves = false; word = 0; carry = carry }
+slid t o carry = when t then record { moves = true; word = o.word; carry = o.carry } else record { moves = false; word = 0; carry = carry }
 
 same_carry : (t : Bool) (o : Offset) (r : ReadList) (carry : Float) → (moved t o r carry).carry ≡ (slid t o carry).carry
-unfolding if◌then◌else◌
+unfolding when◌then◌else◌
 same_carry true o r carry = refl
 same_carry false o r carry = refl
 
 same_list : (t₀ t₁ : Bool) (o₀ o₁ : Offset) (r : ReadList) (fm0 fm1 : Float)
     → (moved t₀ o₀ (moved t₁ o₁ r fm1).list fm0).list ≡ shift_if ((slid t₀ o₀ fm0).moves || (slid t₁ o₁ fm1).moves) (add_words (slid t₁ o₁ fm1).word (slid t₀ o₀ fm0).word) r
-unfolding if◌then◌else◌ shift_if
+unfolding when◌then◌else◌ shift_if
 same_list true true o₀ o₁ r fm0 fm1 = shift_both r o₀.word o₁.word
 same_list true false o₀ o₁ r fm0 fm1 = shift_as r o₀.word _ (λ w. add_none w o₀.word)
 same_list false true o₀ o₁ r fm0 fm1 = shift_as r o₁.word _ (λ w. add_none' w o₁.word)

@@ -5,7 +5,7 @@ use Rattle.std.proofs.Math.Option.{Option, some, none}
 use Rattle.std.specs.Float.Ieee as Ieee
 use Rattle.std.specs.Float.{binary32}
 use Rattle.floats.specs.F32.{◌⊕◌, ◌⊖◌, ◌⊗◌, ◌⊘◌, bits, 2f, ½f}
-use Rattle.floats.specs.Steps.{◌>>=◌, if◌then◌else◌}
+use Rattle.floats.specs.Steps.{◌>>=◌, when◌then◌else◌}
 use Rattle.floats.specs.Floor.{floor_of}
 use Rattle.floats.specs.Exp2.{exp2_of}
 use Rattle.lanes.specs.Lane.{max_of}
@@ -111,7 +111,7 @@ offset_of mode control scale increment carry = offset_by control.amount control.
 -- if self.modulated[slot] && self.sources[slot].is_some()
 unfoldable pub moved_of : ℕ → Control → Float → Float → ReadList → Float → Moved
 moved_of mode control scale increment list carry =
-    if is_modulated mode && control.sourced
+    when is_modulated mode && control.sourced
     then (do
       offset ← offset_of mode control scale increment carry
       record { list = shift_of list offset.word; carry = offset.carry })
@@ -119,7 +119,7 @@ moved_of mode control scale increment list carry =
 
 -- one slot's map, if it is in the phase stage
 unfoldable pub map_slot : List Float → List Float → List Float → Slot → Control → Float → ReadList → ReadList
-map_slot sk ak curve slot control h list = if in_phase slot.mode then apply_of sk ak curve slot control.amount h list else list
+map_slot sk ak curve slot control h list = when in_phase slot.mode then apply_of sk ak curve slot control.amount h list else list
 
 -- increment * (TRANSITION * 0.5 * factor as f32): half the width of an edge. TRANSITION, 2, is in host samples, the increment is for a
 -- rendered one
@@ -141,7 +141,7 @@ list_of sk ak curve slot0 slot1 factor scale control0 control1 inner word increm
 -- `reads_lane`; increment as i32 as f32 * PER_CYCLE is `signed_of`
 unfoldable pub reads_of : List Float → List Float → List Float → Slot → Slot → ℕ → Float → Control → Control → Float → ℕ → ℕ → Float → Float → Reads
 reads_of sk ak curve slot0 slot1 factor scale control0 control1 inner word step fm0 fm1 =
-    if in_phase slot0.mode || in_phase slot1.mode
+    when in_phase slot0.mode || in_phase slot1.mode
     then (do
       increment ← signed_of step
       list_of sk ak curve slot0 slot1 factor scale control0 control1 inner word increment fm0 fm1)

@@ -1,6 +1,6 @@
 -- The phase stage, summed. Definitions only.
 use Rattle.std.specs.Prelude.{ℕ, true, false, ◌&&◌, List, Float}
-use Rattle.floats.specs.Steps.{◌>>=◌, if◌then◌else◌}
+use Rattle.floats.specs.Steps.{◌>>=◌, when◌then◌else◌}
 use Rattle.reads.specs.Reads.{read_sum}
 use Rattle.wave.specs.Slot.{is_modulated}
 use Rattle.voice.specs.declared.control.Control.{Control}
@@ -12,7 +12,7 @@ use Rattle.voice.specs.PhaseRun.{offset_of}
 -- how a slot moves the reads, as `moved_of` has it
 unfoldable pub slide_of : ℕ → Control → Float → Float → Float → Slide
 slide_of mode control scale increment carry =
-    if is_modulated mode && control.sourced
+    when is_modulated mode && control.sourced
     then (do
       offset ← offset_of mode control scale increment carry
       record { moves = true; word = offset.word; carry = offset.carry })

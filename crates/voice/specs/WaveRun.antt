@@ -1,6 +1,6 @@
 -- The wave stage of one lane at one rendered frame: `WaveRun` of mod.rs, its filter pairs and `last` in and out by value. Definitions only.
 use Rattle.std.specs.Prelude.{ℕ, ◌≡◌, Bool, not, ◌||◌, ◌&&◌, List, Float}
-use Rattle.floats.specs.Steps.{◌>>=◌, if◌then◌else◌}
+use Rattle.floats.specs.Steps.{◌>>=◌, when◌then◌else◌}
 use Rattle.lanes.specs.Word.{signed_of}
 use Rattle.phase.specs.declared.map.Slot.{Slot}
 use Rattle.wave.specs.declared.filters.Svf.{Svf}
@@ -32,7 +32,7 @@ Passes y slot control x = (sk : List Float) (increment : Float) (state : Svf) �
 unfoldable pub shaped_of : List Float → Slot → Slot → Control → Control → ℕ → Float → Svf → Svf → Float → Shaped
 shaped_of sk slot0 slot1 control0 control1 step x pairs0 pairs1 last = do
   increment ← signed_of step
-  kept ← if tracks slot0.mode slot1.mode then x else last
+  kept ← when tracks slot0.mode slot1.mode then x else last
   first ← slot_of sk slot0 control0 increment x pairs0
   second ← slot_of sk slot1 control1 increment first.y pairs1
   record { y = second.y; pairs0 = first.state; pairs1 = second.state; last = kept }

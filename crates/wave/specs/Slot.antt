@@ -3,7 +3,7 @@
 use Rattle.std.specs.Prelude.{ℕ, Bool, true, false, not, ◌&&◌, List, [], ◌∷◌, Float}
 use Rattle.std.proofs.Math.Option.{Option, some, none}
 use Rattle.floats.specs.F32.{◌⊕◌, ◌⊖◌, ◌⊗◌, 1f, ½f}
-use Rattle.floats.specs.Steps.{◌>>=◌, if◌then◌else◌}
+use Rattle.floats.specs.Steps.{◌>>=◌, when◌then◌else◌}
 use Rattle.modes.specs.Mode.{number_of, LowPass, HighPass}
 use Rattle.modes.specs.Choice.{◌⇒◌, case_of}
 use Rattle.modes.specs.Facts.{Fact, given, refused, Stage, is_wave, Modulated, fm, phase_distortion, am, ring}
@@ -53,19 +53,19 @@ curve_setting mode a = do
 
 -- let Some(source) = self.sources[slot] else { continue }
 abbrev pub level_setting : Float → Bool → Float → Setting
-level_setting a sourced source = if sourced then Setting.Level a source else Setting.Nothing
+level_setting a sourced source = when sourced then Setting.Level a source else Setting.Nothing
 
 -- if mode.filter() {..} else if self.modulated[slot] {..} else {..}
 abbrev pub wave_setting : ℕ → Float → Float → Bool → Float → Setting
-wave_setting mode a character sourced source = if is_filter mode then filter_setting mode a character else (if is_modulated mode then level_setting a sourced source else curve_setting mode a)
+wave_setting mode a character sourced source = when is_filter mode then filter_setting mode a character else (when is_modulated mode then level_setting a sourced source else curve_setting mode a)
 
 -- the slot's setting; `sourced` says whether it has a source
 unfoldable pub setting_of : ℕ → Float → Float → Bool → Float → Setting
-setting_of mode a character sourced source = if in_wave mode then wave_setting mode a character sourced source else Setting.Nothing
+setting_of mode a character sourced source = when in_wave mode then wave_setting mode a character sourced source else Setting.Nothing
 
 -- what of a slot's setting goes by its mode and its amount alone: a filter's harmonic, a curve's drive; 1 for AM and Ring
 unfoldable pub wave_power : ℕ → Float → Float
-wave_power mode a = if is_filter mode then cutoff_harmonic mode a else (if is_modulated mode then 1f else gain_of mode a)
+wave_power mode a = when is_filter mode then cutoff_harmonic mode a else (when is_modulated mode then 1f else gain_of mode a)
 
 -- x * (1.0 - a * 0.5 * (1.0 - s))
 unfoldable pub am_of : Float → Float → Float → Float

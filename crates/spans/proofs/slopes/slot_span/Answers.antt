@@ -1,13 +1,13 @@
 -- `slopes::slot_span` meets its contract: its steps are the definition's.
 use mathlib.Core.Path.{◌≡◌, sym, ◌∙◌}
-use Rattle.floats.specs.Steps.{if◌then◌else◌, given, taken, left}
+use Rattle.floats.specs.Steps.{when◌then◌else◌, given, taken, left}
 use Rattle.spans.specs.Slopes.{slot_span}
 use Rattle.spans.proofs.slopes.slot_span.Goals as goal
 use Rattle.spans.proofs.slopes.slot_span.Goals.{Joined-second, then-second, else-second}
 
 inner : (c : Joined-second)
     → let a = c.args in
-    c.if-second.inner ≡ (if a.second then c.steepest_at-steepest.result else a.span.inner)
+    c.if-second.inner ≡ (when a.second then c.steepest_at-steepest.result else a.span.inner)
 inner c =
     elim c.if-second.branch [
       | then-second w ↦ w.inner-is ∙ sym (taken _ _ w.if-second.true)
