@@ -1,5 +1,5 @@
 -- `vectors::main` is safe and ends: it lends the table of powers.
-use Rattle.std.proofs.Common.{◌-◌, refl, arith, rules}
+use Rattle.std.proofs.Common.{refl, arith}
 use Rattle.floats.specs.Exp2.{entries}
 use Rattle.vectors.proofs.main.Goals as goal
 
