@@ -1,4 +1,3 @@
 -- The definitions that contracts cite.
 pub mod Planning
-pub mod Digits
 pub mod Row

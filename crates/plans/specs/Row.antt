@@ -1,7 +1,7 @@
 -- What is put into a row of the table. Definitions only.
 use Rattle.std.specs.Prelude.{◌≡◌, cond, List, ℕ, ◌+◌, ◌-◌, ltb, length, replicate}
 use Rattle.std.proofs.Math.Seq.{paste}
-use Rattle.plans.specs.Digits.{last_digits, IsDigitCount}
+use Rattle.io.specs.Digits.{last_digits, IsDigitCount}
 
 -- 120 blanks
 abbrev pub blanks : List ℕ

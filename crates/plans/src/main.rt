@@ -2,12 +2,10 @@
 // active lanes, factor, frames and the three designs' counts), and writes a table of what each block needs.
 #![tactic(auto)]
 
-mod digits;
 mod planning;
 mod row;
 mod table;
 
-use std::io;
 use std::io::{Print, Read, Stdout};
 use table::{print_heading, print_line};
 use text::{Line, left_over, line_bytes, no_line, with_byte};
@@ -26,7 +24,12 @@ struct Input {
 }
 
 // A byte of the input.
-fn take_byte(out: Stdout, buffer: &mut [u8; 255], input: Input, byte: u8) -> io::Result<Input> {
+fn take_byte(
+    out: Stdout,
+    buffer: &mut [u8; 255],
+    input: Input,
+    byte: u8,
+) -> std::io::Result<Input> {
     let lines = input.lines;
     let before = input.line;
     if LINES <= lines {
@@ -60,7 +63,7 @@ fn take_bytes(
     buffer: &mut [u8; 255],
     input: Input,
     bytes: &[u8],
-) -> io::Result<Input> {
+) -> std::io::Result<Input> {
     let mut after = input;
     for i in 0..bytes.len() {
         after = take_byte(out, buffer, after, bytes[i])?;
@@ -80,7 +83,7 @@ fn ended(input: Input) -> Input {
 }
 
 // Reads once. An input that cannot be read ends there, and what came of its last line is dropped.
-fn read_some(rt: &HostRuntime, buffer: &mut [u8; 255], input: Input) -> io::Result<Input> {
+fn read_some(rt: &HostRuntime, buffer: &mut [u8; 255], input: Input) -> std::io::Result<Input> {
     let mut bytes = [0u8; 4096];
     match rt.stdin().read(&mut bytes) {
         Ok(0) => Ok(ended(input)),
@@ -99,7 +102,7 @@ fn read_some(rt: &HostRuntime, buffer: &mut [u8; 255], input: Input) -> io::Resu
 }
 
 // What is left at the input's end.
-fn finish(out: Stdout, buffer: &[u8; 255], input: Input) -> io::Result<()> {
+fn finish(out: Stdout, buffer: &[u8; 255], input: Input) -> std::io::Result<()> {
     let line = input.line;
     let lines = input.lines;
     if lines < LINES {
@@ -115,7 +118,7 @@ fn finish(out: Stdout, buffer: &[u8; 255], input: Input) -> io::Result<()> {
 
 // A proved loop has to end, and nothing says that an input does. So the loop counts its turns down, from a number
 // that no run uses up.
-fn main(rt: HostRuntime) -> io::Result<()> {
+fn main(rt: HostRuntime) -> std::io::Result<()> {
     print_heading(rt.stdout())?;
     let mut buffer = [0u8; 255];
     let mut input = Input {

@@ -3,8 +3,7 @@ ghost use Rattle.std.specs.Prelude.{◌≡◌, ◌+◌, ◌≤◌, length};
 ghost use Rattle.std.proofs.Math.Seq.{paste};
 ghost use Rattle.plans.specs.Row.{blanks, put_left, end_left, PutRight};
 
-use crate::digits::decimal;
-use std::io;
+use io::decimal;
 use std::io::{Print, Stdout};
 
 pub fn empty() -> [u8; 120]
@@ -53,7 +52,7 @@ pub fn right(row: &mut [u8; 120], end: usize, n: u64)
 }
 
 // Writes the row's first bytes.
-pub fn print(out: Stdout, row: &[u8; 120], length: usize) -> io::Result<()> {
+pub fn print(out: Stdout, row: &[u8; 120], length: usize) -> std::io::Result<()> {
     let whole: &[u8] = row;
     if length <= whole.len() {
         out.write_all(&whole[..length])?;

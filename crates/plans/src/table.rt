@@ -5,10 +5,9 @@ ghost use Rattle.plan.specs.Plan.{floats_of};
 use crate::planning::{LinePlan, in_order, plans_of};
 use crate::row;
 use plan::{BlockNumbers, Plan, floats_of};
-use std::io;
 use std::io::{Print, Stdout};
 
-pub fn print_heading(out: Stdout) -> io::Result<()> {
+pub fn print_heading(out: Stdout) -> std::io::Result<()> {
     out.write_all(
         b"A block made as one range: work, decimator state, filter pairs, FM carry, last (not output, spans, what is read)\n",
     )?;
@@ -65,7 +64,7 @@ fn put_counts(row: &mut [u8; 120], p: Plan) -> usize {
 }
 
 // Two rows: floats above bytes, and the block's reads and steps above one host frame's.
-fn print_planned(out: Stdout, line: u64, p: LinePlan) -> io::Result<()> {
+fn print_planned(out: Stdout, line: u64, p: LinePlan) -> std::io::Result<()> {
     let mut row = row::empty();
     row::right(&mut row, 4, line);
     put_numbers(&mut row, p.numbers);
@@ -95,7 +94,7 @@ fn put_meaning(row: &mut [u8; 120], number: u32) -> usize {
     }
 }
 
-fn print_refused(out: Stdout, line: u64, number: u32) -> io::Result<()> {
+fn print_refused(out: Stdout, line: u64, number: u32) -> std::io::Result<()> {
     let mut row = row::empty();
     row::right(&mut row, 4, line);
     row::left(&mut row, 6, b"refused");
@@ -104,7 +103,7 @@ fn print_refused(out: Stdout, line: u64, number: u32) -> io::Result<()> {
     row::print(out, &row, n)
 }
 
-fn print_bad(out: Stdout, line: u64) -> io::Result<()> {
+fn print_bad(out: Stdout, line: u64) -> std::io::Result<()> {
     let mut row = row::empty();
     row::right(&mut row, 4, line);
     let n = row::left(&mut row, 6, b"not seven decimal numbers below 4294967296\n");
@@ -112,7 +111,7 @@ fn print_bad(out: Stdout, line: u64) -> io::Result<()> {
 }
 
 // The rows for a line.
-pub fn print_line(out: Stdout, line: u64, text: &[u8]) -> io::Result<()> {
+pub fn print_line(out: Stdout, line: u64, text: &[u8]) -> std::io::Result<()> {
     let seven = text::seven_of(text);
     if !seven.good {
         return print_bad(out, line);
