@@ -1,89 +1,65 @@
-// Cells of buffers and tables, drawn one after another, and the hash over them.
-use crate::answer::{float, pattern};
-use crate::decimations;
-use crate::phases::{inner_stretch, slope_entry, special};
-use crate::random::{folded, next};
-use crate::waves::{percent, sample};
+// The floats of cells and cases. With an even seed they are tame; with an odd one some are special, or any
+// pattern.
+use crate::answer::float;
 use floats::nearest_u32;
 
-// What the cells are: a decimator's coefficients, or its buffer and state; a curve's entries, of a size; or
-// those of a call. A call's controls are `base0`, `base1`, `mod0`, `mod1`, `source0`, `source1` in a row,
-// of four lanes; the number is where the sources start.
-#[derive(Clone, Copy)]
-pub enum Kind {
-    Coefficient,
-    Decimated,
-    Entry(f32),
-    Controls(usize),
-    Sample,
-    Half,
-    Stretch,
-    Slope,
-}
-
-// A number of percent from -64 to 64.
-fn modulation(draw: u32) -> f32 {
-    nearest_u32(draw >> 8) / 131072.0 - 64.0
-}
-
-// What modulation adds to a step: 0, or a number of words to 2^30.
-fn slope(draw: u32) -> f32 {
-    if draw % 4 == 0 {
-        0.0
-    } else {
-        nearest_u32(draw >> 8) * 64.0
+// The floats that a rule may end at.
+fn special(draw: u32) -> f32 {
+    match draw >> 28 {
+        0 => 0.0,
+        1 => -0.0,
+        2 => float(0x0000_0001),
+        3 => float(0x3380_0000),
+        4 => 0.5,
+        5 => float(0x3f7f_ffff),
+        6 => 1.0,
+        7 => float(0x3f80_0001),
+        8 => 2.0,
+        9 => 16777216.0,
+        10 => float(0x7f7f_ffff),
+        11 => float(0x7f80_0000),
+        12 => float(0xff80_0000),
+        13 => -0.5,
+        14 => -1.0,
+        _ => f32::NAN,
     }
 }
 
-fn control(i: usize, sources: usize, draw: u32) -> f32 {
-    if i < 8 {
-        percent(draw)
-    } else if i < sources {
-        modulation(draw)
-    } else {
-        sample(draw)
+// A number from 0 to 1.
+pub(crate) fn unit(draw: u32) -> f32 {
+    nearest_u32(draw >> 8) / 16777216.0
+}
+
+// A pattern of moderate size.
+pub(crate) fn tamed(draw: u32) -> u32 {
+    (draw & 0x87ff_ffff) | 0x3800_0000
+}
+
+// A float of a case: with an odd seed by `how` tame, special, or any pattern.
+pub(crate) fn chosen(seed: u32, how: u32, draw: u32, tame: f32) -> f32 {
+    if seed % 2 == 0 {
+        return tame;
+    }
+    match how % 4 {
+        0 => tame,
+        1 => special(draw),
+        _ => float(draw),
     }
 }
 
-// A call's cell: with an odd seed an eighth each is special or any pattern.
-pub fn cell(seed: u32, draw: u32, tame: f32) -> f32 {
-    let how = if seed % 2 == 0 { 2 } else { draw % 8 };
-    match how {
-        0 => special(draw),
+// A cell: with an odd seed an eighth each is `special` or any pattern.
+pub(crate) fn cell_of(seed: u32, draw: u32, special: f32, tame: f32) -> f32 {
+    if seed % 2 == 0 {
+        return tame;
+    }
+    match draw % 8 {
+        0 => special,
         1 => float(draw),
         _ => tame,
     }
 }
 
-// The cell `i` of a draw.
-fn value(kind: Kind, seed: u32, i: usize, draw: u32) -> f32 {
-    match kind {
-        Kind::Coefficient => decimations::coefficient(seed, draw),
-        Kind::Decimated => decimations::cell(seed, draw),
-        Kind::Entry(size) => slope_entry(seed, draw, size),
-        Kind::Controls(sources) => cell(seed, draw, control(i, sources, draw)),
-        Kind::Sample => cell(seed, draw, sample(draw)),
-        Kind::Half => cell(seed, draw, sample(draw) * 0.5),
-        Kind::Stretch => cell(seed, draw, inner_stretch(draw)),
-        Kind::Slope => cell(seed, draw, slope(draw)),
-    }
-}
-
-// Draws cells after the state `s`; gives the state after them.
-pub fn draw_cells(seed: u32, kind: Kind, s: u32, cells: &mut [f32]) -> u32 {
-    let mut s = s;
-    for i in 0..cells.len() {
-        s = next(s);
-        cells[i] = value(kind, seed, i, s);
-    }
-    s
-}
-
-// Cells' patterns put to the hash.
-pub fn folded_cells(h: u64, cells: &[f32]) -> u64 {
-    let mut h = h;
-    for i in 0..cells.len() {
-        h = folded(h, pattern(cells[i]));
-    }
-    h
+// A call's cell.
+pub fn cell(seed: u32, draw: u32, tame: f32) -> f32 {
+    cell_of(seed, draw, special(draw), tame)
 }

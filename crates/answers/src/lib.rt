@@ -5,6 +5,8 @@
 pub mod answer;
 pub mod cells;
 pub mod decimations;
+mod facts;
+pub mod hash;
 pub mod phases;
 pub mod random;
 pub mod runs;

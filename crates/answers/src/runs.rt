@@ -1,12 +1,38 @@
-// A run of random cases as a line of the vectors has it: the operation and two words.
+// Runs of random cases, as a line of the vectors has them: the operation and two words.
 ghost use Rattle.std.specs.Prelude.{◌≡◌};
-ghost use Rattle.floats.specs.Exp2.{entries};
+ghost use Rattle.answers.specs.Hash.{nothing};
 
-use crate::decimations::{DecimateRun, decimate_hash};
-use crate::phases::reads_turn;
-use crate::random::{ModesRun, Turn, answer_turn};
-use crate::waves::{Held, wave_turn};
-use wave::Svf;
+use crate::answer::answer;
+use crate::cells::{tamed, unit};
+use crate::decimations::decimate_hash;
+use crate::hash::Hash;
+use crate::phases::reads_hash;
+use crate::random::Random;
+use crate::waves::waves_hash;
+use halfband::CallNumbers;
+
+// `count` cases drawn from `seed`, of two modes where these count.
+#[derive(Clone, Copy)]
+pub struct ModesRun {
+    pub mode0: u32,
+    pub mode1: u32,
+    pub seed: u32,
+    pub count: u32,
+}
+
+impl ModesRun {
+    // As a line's words have it.
+    pub fn new(words: [u32; 2]) -> ModesRun {
+        let [a, b] = words;
+        let [_, _, mode0, mode1] = b.to_le_bytes();
+        ModesRun {
+            mode0: u32::from(mode0),
+            mode1: u32::from(mode1),
+            seed: a,
+            count: b % 0x1_0000,
+        }
+    }
+}
 
 // A run's cases, and the hash of its answers.
 #[derive(Clone, Copy)]
@@ -15,83 +41,89 @@ pub struct Hashed {
     pub hash: u64,
 }
 
-// One call of the decimator.
-fn decimated(a: u32, b: u32) -> Hashed {
-    let run = DecimateRun {
-        factor: b / 0x100_0000,
-        lanes: b / 0x1_0000 % 0x100,
-        active: b / 0x100 % 0x100,
-        frames: b % 0x100,
-        seed: a,
-    };
-    Hashed {
-        count: 1,
-        hash: decimate_hash(run),
-    }
-}
-
-// Cases of two modes.
-pub fn modes_run(a: u32, b: u32) -> ModesRun {
-    ModesRun {
-        mode0: b / 0x1_0000 % 0x100,
-        mode1: b / 0x100_0000,
-        seed: a,
-        count: b % 0x1_0000,
-    }
-}
-
-fn turned(powers: &[u32; 257], table: &[f32; 1025], op: u32, run: ModesRun, t: Turn) -> Turn
-    requires { powers.now ≡ entries }
+// `count` cases, each drawn and put to the hash by `step`.
+pub fn put_cases<F: FnMut(&mut Random, &mut Hash)>(
+    count: u32,
+    random: Random,
+    hash: &mut Hash,
+    mut step: F,
+)
+    requires { F.IsAlwaysCallable step }
+    ensures { count ≡ 0 → hash.new ≡ hash.old }
 {
-    match op {
-        0x29 => reads_turn(powers, table, run, t),
-        0x36 => wave_turn(powers, run, t),
-        _ => answer_turn(powers, table, op, run.seed, t),
-    }
-}
-
-fn hash(powers: &[u32; 257], table: &[f32; 1025], op: u32, run: ModesRun) -> u64
-    requires { powers.now ≡ entries }
-{
-    let count = run.count;
-    let mut t = Turn {
-        s: run.seed,
-        h: 0xcbf2_9ce4_8422_2325,
-        held: Held {
-            percent: 0.0,
-            x: 0.0,
-            state: Svf { ic1: 0.0, ic2: 0.0 },
-        },
-    };
+    let mut random = random;
     for _ in 0..count {
-        t = turned(powers, table, op, run, t);
-    }
-    t.h
-}
-
-// A run of read lists has two modes beside its count; one of samples has a mode and, in the other's place,
-// whether it goes through a slot.
-fn run_of(op: u32, a: u32, b: u32) -> ModesRun {
-    match op {
-        0x29 | 0x36 => modes_run(a, b),
-        _ => ModesRun {
-            mode0: 0,
-            mode1: 0,
-            seed: a,
-            count: b,
-        },
+        step(&mut random, hash);
     }
 }
 
-pub fn ran(powers: &[u32; 257], table: &[f32; 1025], op: u32, a: u32, b: u32) -> Hashed
-    requires { powers.now ≡ entries }
+// The hash of so many cases.
+pub fn hash_of<F: FnMut(&mut Random, &mut Hash)>(count: u32, random: Random, step: F) -> u64
+    requires { F.IsAlwaysCallable step }
+    ensures { count ≡ 0 → result ≡ nothing }
 {
-    if op == 0x40 {
-        return decimated(a, b);
-    }
-    let run = run_of(op, a, b);
+    let mut hash = Hash::new();
+    put_cases(count, random, &mut hash, step);
+    hash.value
+}
+
+// Which inputs of an operation are words and no floats.
+fn first_is_word(op: u32) -> bool {
+    matches!(op, 0x0b | 0x0d | 0x1e..=0x1f | 0x27..=0x28 | 0x30..=0x34)
+}
+
+fn others_are_words(op: u32) -> bool {
+    matches!(op, 0x0b..=0x0c)
+}
+
+// The answers of `op` to three draws each. An even seed draws floats of moderate size.
+fn answers_hash(table: &[f32; 1025], op: u32, seed: u32, count: u32) -> u64 {
+    let input = |is_word: bool, draw: u32| {
+        if is_word || seed % 2 != 0 {
+            draw
+        } else {
+            tamed(draw)
+        }
+    };
+    hash_of(count, Random::new(seed), |random, hash| {
+        let [a, b, c] = random.draws::<3>();
+        let x = input(first_is_word(op), a);
+        let y = input(others_are_words(op), b);
+        let z = input(others_are_words(op), c);
+        hash.put(answer(table, op, [x, y, z]));
+    })
+}
+
+// One call of the decimator.
+fn decimated(a: u32, b: u32) -> u64 {
+    let [frames, active, lanes, factor] = b.to_le_bytes();
+    let call = CallNumbers {
+        factor: u32::from(factor),
+        lanes: u32::from(lanes),
+        active: u32::from(active),
+        frames: u32::from(frames),
+    };
+    decimate_hash(a, call)
+}
+
+// Read lists and samples have two modes beside their count; samples have a mode and, in the other's place,
+// whether they go through a slot.
+pub fn ran(table: &[f32; 1025], op: u32, words: [u32; 2]) -> Hashed {
+    let [a, b] = words;
+    let run = ModesRun::new(words);
+    let (count, hash) = match op {
+        0x29 => (run.count, reads_hash(table, run)),
+        0x36 => (run.count, waves_hash(run)),
+        0x40 => (1, decimated(a, b)),
+        _ => (b, answers_hash(table, op, a, b)),
+    };
     Hashed {
-        count: run.count as u64,
-        hash: hash(powers, table, op, run),
+        count: u64::from(count),
+        hash,
     }
+}
+
+// The table that `lookup` reads: 1,025 numbers from 0 to 1, as an even seed's coefficients.
+pub fn table() -> [f32; 1025] {
+    Random::new(0x5eed).cells(unit)
 }

@@ -1,7 +1,13 @@
 -- The laws of what a block run promises: turned down, and done. Assumes nothing.
-use mathlib.Core.Path.{◌≡◌, refl, sym, ◌∙◌}
+use mathlib.Core.Path.{◌≡◌, refl, sym, ◌∙◌, ap}
 use Prim.Native.Nat.{ℕ}
+use native.Mathlib.Omega.{arith}
 use borrow.Author.Tests.{ne_eqb, eq-eqb}
+use Rattle.std.specs.Prelude.{Result, Ok, Err}
+use Rattle.std.specs.Result.{IsErrAnd}
+use Rattle.limits.specs.declared.refusal.Refusal.{Refusal}
+use Rattle.limits.specs.Refusals.{line_of, number_of, answer_of}
+use Rattle.limits.proofs.LineLaws.{some_line}
 use Rattle.shaper.specs.declared.settings.Range.{Range}
 use Rattle.render.specs.declared.state.BlockSettings.{BlockSettings}
 use Rattle.render.specs.Lane.{Lent}
@@ -27,9 +33,15 @@ module _ (b : BlockSettings) (r : Range) (active coefs numbers : ℕ) (l : Lent)
         sizes = refl;
       }
 
+  pub meets_turned_down : (outcome : Result ℕ Refusal) (e : Refusal) → IsErrAnd outcome (λ x. x ≡ e)
+      → number_of {A = Unit {0}} (Err e) ≡ number → Meets (called b r active coefs numbers l w w (answer_of outcome))
+  unfolding number_of answer_of
+  meets_turned_down (Ok _) e h is = absurd h
+  meets_turned_down (Err x) e h is = meets_refused (line_of x) (ap line_of h ∙ is) (λ z. omega (arith, some_line x))
+
   pub meets_shared : {w' : Buffers} → number ≡ 0 → Shared b r l 0 active w w'
-      → Meets (called b r active coefs numbers l w w' (record { number = 0; frames = r.count }))
-  unfolding refusal_of
+      → Meets (called b r active coefs numbers l w w' (answer_of (Ok r.count)))
+  unfolding refusal_of answer_of
   meets_shared ok did =
       record {
         number = sym ok;

@@ -7,7 +7,7 @@ use lib.ListN.{length, get_or, take, drop, length-take, length-drop}
 use lib.Seq.{get_or-take, get_or-drop, ext_get_or}
 use lib.Ieee.{Float, nan}
 use Rattle.grid.specs.Functions.{table}
-use Rattle.grid.proofs.TableLaws.{length_table, get_d-table}
+use Rattle.grid.proofs.TableLaws.{length_table, get_or-table}
 use Rattle.lanes.specs.declared.maths.Numbers.{Numbers}
 use Rattle.block.specs.Numbers.{numbers_of}
 
@@ -15,7 +15,7 @@ use Rattle.block.specs.Numbers.{numbers_of}
 part_taken : (xs : List Float) (at n : ℕ) → at + n ≤ length xs → table n (λ i. get_or xs (at + i) nan) ≡ take n (drop at xs)
 part_taken xs at n h =
     ext_get_or nan _ _ (length_table n _ ∙ sym (simp (length-take, length-drop) (omega arith)))
-    (λ i l. let low = rw length_table at l in get_d-table n _ i nan low ∙ sym (rw (get_or-take, get_or-drop)))
+    (λ i l. let low = rw length_table at l in get_or-table n _ i nan low ∙ sym (rw (get_or-take, get_or-drop)))
 
 pub numbers_taken : (xs : List Float) → 13 ≤ length xs
     → let at : ℕ → Float = λ i. get_or xs i nan in

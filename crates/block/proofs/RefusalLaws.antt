@@ -1,12 +1,17 @@
 -- The laws of a block run's refusals: an accepted one passes all eight lines of the table, and so has what its lanes' shares ask for.
 -- Assumes nothing.
-use mathlib.Core.Path.{◌≡◌, ◌∙◌}
-use mathlib.Core.Bool.{false, ◌||◌}
-use Prim.Native.Nat.{ℕ, ◌≤◌}
+use mathlib.Core.Path.{◌≡◌, refl, sym, ◌∙◌}
+use mathlib.Core.Bool.{Bool, false, ◌||◌}
+use mathlib.Core.List.{[], ◌∷◌}
+use Prim.Native.Nat.{ℕ, ◌+◌, ◌≤◌}
+use native.Mathlib.Omega.{arith}
 use lib.ListN.{length}
+use Rattle.std.specs.Prelude.{Ok}
+use Rattle.limits.specs.declared.refusal.Refusal.{Refusal}
+use Rattle.limits.specs.Refusals.{number_of, line_of, numbered}
 use Rattle.limits.specs.Lines.{first_of, number_lines, bad_modes, bad_factor, bad_lanes, bad_range, bad_rate, bad_counts}
 use Rattle.limits.specs.Lengths.{host_length, rendered_length, span_length, curve_length, cycle_length, coefs_length, numbers_length, pairs_length, carry_length, last_length, state_length, shorter}
-use Rattle.limits.proofs.LineLaws.{then_lengths, whole_table, no_line, or_false, small_factor, good_lanes, good_range, good_rate, good_counts}
+use Rattle.limits.proofs.LineLaws.{then_lengths, whole_table, no_line, numbers_passed, or_false, small_factor, good_lanes, good_range, good_rate, good_counts}
 use Rattle.limits.proofs.LengthLaws.{long_enough, not_short, controls_held}
 use Rattle.halfband.specs.Floats.{design_of}
 use Rattle.halfband.proofs.RefusalLaws.{good_factor, three}
@@ -69,6 +74,30 @@ pub by_parts : (table : CallNumbers → ReadLengths → WriteLengths → ℕ)
     {call call' : CallNumbers} {reads reads' : ReadLengths} {writes writes' : WriteLengths} {number : ℕ}
     → call ≡ call' → reads ≡ reads' → writes ≡ writes' → number ≡ table call reads writes → number ≡ table call' reads' writes'
 by_parts table numbered read written h = h ∙ (λ j. table (numbered j) (read j) (written j))
+
+pub passed_by : (table : CallNumbers → ReadLengths → WriteLengths → ℕ)
+    {call call' : CallNumbers} {reads reads' : ReadLengths} {writes writes' : WriteLengths}
+    → call ≡ call' → reads ≡ reads' → writes ≡ writes' → number_of {A = Unit {0}} (Ok tt) ≡ table call reads writes → table call' reads' writes' ≡ 0
+unfolding number_of
+passed_by table numbered read written h = sym (by_parts table numbered read written h)
+
+-- ---- as the code goes through the table
+
+-- what lines 7 and 8 are asked for
+pub small_numbers : (call : CallNumbers)
+    → number_of {A = Unit {0}} (Ok tt)
+    ≡ first_of (number_lines (bad_modes call.mode0 call.mode1) (bad_factor call.factor) (bad_lanes call.lanes call.active) (bad_range call.frames call.first call.count) (bad_rate call.rate) (bad_counts call.count0 call.count1 call.count2))
+    → (call.frames ≤ 4096) × (call.factor ≤ 8) × (call.lanes ≤ 64) × (call.count ≤ 4096)
+unfolding number_of
+small_numbers call h =
+    let p = numbers_passed _ _ _ _ _ _ (sym h) in
+    let range = good_range _ _ _ p.frames in
+    (range.0, (small_factor _ p.factor).1, (good_lanes _ _ p.lanes).1, omega (arith, range.0, range.1))
+
+-- and their numbers
+pub last_lines : (g h : Bool) → first_of (numbered ((g, Refusal.ShortRead) ∷ (h, Refusal.ShortWrite) ∷ [])) ≡ then_lengths 0 g h
+unfolding first_of line_of
+last_lines g h = refl
 
 -- ---- line 7, of coefficients and numbers on slices
 

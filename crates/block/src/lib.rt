@@ -7,8 +7,8 @@ pub mod run;
 pub mod settings;
 
 pub use refusal::{
-    CallNumbers, ReadLengths, WriteLengths, call_numbers, read_lengths, refused, write_lengths,
+    CallNumbers, ReadLengths, WriteLengths, call_numbers, check, read_lengths, write_lengths,
 };
-pub use render::BlockSettings;
+pub use render::{BlockSettings, LentSlices, Rows};
 pub use run::{block_run, run_lanes};
 pub use settings::{numbers_of, settings_of};

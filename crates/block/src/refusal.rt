@@ -1,18 +1,19 @@
 // When a block run is turned down: by its numbers and by lengths, and by no float.
 ghost use Rattle.std.specs.Prelude.{◌≡◌, ◌≤◌};
 ghost use Rattle.limits.specs.Lines.{first_of, number_lines, bad_modes, bad_factor, bad_lanes, bad_range, bad_rate, bad_counts};
-ghost use Rattle.render.specs.Promises.{lent};
+ghost use Rattle.limits.specs.Refusals.{number_of};
+ghost use Rattle.render.specs.Slices.{lent_lists};
 ghost use Rattle.share.specs.Share.{buffers};
 ghost use Rattle.block.specs.Refusal.{buffers_short, reads_short, writes_short, block_refusal};
 ghost use Rattle.block.specs.Call.{call_numbers, read_lengths, write_lengths};
 
 use limits::{
-    COEFS_LENGTH, CURVE_LENGTH, CYCLE_LENGTH, ControlLengths, NUMBERS_LENGTH, carry_length,
-    control_lengths, controls_short, counts_bad, factor_bad, first_line, host_length, lanes_bad,
+    COEFS_LENGTH, CURVE_LENGTH, CYCLE_LENGTH, ControlLengths, NUMBERS_LENGTH, Refusal,
+    carry_length, check_lines, controls_short, counts_bad, factor_bad, host_length, lanes_bad,
     last_length, modes_bad, pairs_length, range_bad, rate_bad, rendered_length, short, span_length,
     state_length,
 };
-use render::BlockSettings;
+use render::{BlockSettings, LentSlices};
 use shaper::Range;
 
 // What lines 1 to 6 look at: the run's numbers without characters, coefficients and sine and arctangent
@@ -62,16 +63,13 @@ pub fn call_numbers(b: BlockSettings, r: Range, active: u32) -> CallNumbers
     ensures { result ≡ call_numbers b r active }
 {
     let s = b.shaper;
-    let designs = b.designs;
-    let last = designs.stages[0];
-    let middle = designs.stages[1];
-    let first = designs.stages[2];
+    let [last, middle, first] = b.designs.stages;
     CallNumbers {
         mode0: s.slot0.mode,
         mode1: s.slot1.mode,
         factor: s.factor,
         lanes: s.lanes,
-        active: active,
+        active,
         frames: s.frames,
         first: r.first,
         count: r.count,
@@ -83,31 +81,17 @@ pub fn call_numbers(b: BlockSettings, r: Range, active: u32) -> CallNumbers
 }
 
 // Of the slices themselves, and of coefficients and numbers by how many there are.
-pub fn read_lengths(
-    base0: &[f32],
-    base1: &[f32],
-    mod0: &[f32],
-    mod1: &[f32],
-    source0: &[f32],
-    source1: &[f32],
-    curve: &[f32],
-    cycle: &[f32],
-    words: &[u32],
-    steps: &[u32],
-    inner: &[f32],
-    coefs: usize,
-    numbers: usize,
-) -> ReadLengths
-    ensures { result ≡ read_lengths coefs numbers
-        (lent base0.now base1.now mod0.now mod1.now source0.now source1.now curve.now cycle.now words.now steps.now inner.now) }
+pub fn read_lengths(lent: &LentSlices<'_>, coefs: usize, numbers: usize) -> ReadLengths
+    ensures { result ≡ read_lengths coefs numbers (lent_lists lent.now) }
 {
+    let rows = lent.rows;
     ReadLengths {
-        controls: control_lengths(base0, base1, mod0, mod1, source0, source1),
-        curve: curve.len(),
-        cycle: cycle.len(),
-        words: words.len(),
-        steps: steps.len(),
-        inner: inner.len(),
+        controls: rows.controls.lengths(),
+        curve: lent.curve.len(),
+        cycle: lent.cycle.len(),
+        words: rows.words.len(),
+        steps: rows.steps.len(),
+        inner: rows.inner.len(),
         coefs,
         numbers,
     }
@@ -135,17 +119,24 @@ pub fn write_lengths(
 }
 
 // Lines 1 to 6.
-fn numbers_refused(call: CallNumbers) -> u32
-    ensures { result ≡ first_of (number_lines (bad_modes call.mode0 call.mode1) (bad_factor call.factor) (bad_lanes call.lanes call.active) (bad_range call.frames call.first call.count) (bad_rate call.rate) (bad_counts call.count0 call.count1 call.count2)) }
+#[tactic(auto, unfolding(limits::specs::Lines::first_of, limits::specs::Refusals::line_of))]
+fn check_numbers(call: CallNumbers) -> Result<(), Refusal>
+    ensures { number_of result ≡ first_of (number_lines (bad_modes call.mode0 call.mode1) (bad_factor call.factor) (bad_lanes call.lanes call.active) (bad_range call.frames call.first call.count) (bad_rate call.rate) (bad_counts call.count0 call.count1 call.count2)) }
 {
-    first_line(
-        modes_bad(call.mode0, call.mode1),
-        factor_bad(call.factor),
-        lanes_bad(call.lanes, call.active),
-        range_bad(call.frames, call.first, call.count),
-        rate_bad(call.rate),
-        counts_bad(call.count0, call.count1, call.count2),
-    )
+    check_lines(&[
+        (modes_bad(call.mode0, call.mode1), Refusal::Mode),
+        (factor_bad(call.factor), Refusal::Factor),
+        (lanes_bad(call.lanes, call.active), Refusal::Lanes),
+        (
+            range_bad(call.frames, call.first, call.count),
+            Refusal::Frames,
+        ),
+        (rate_bad(call.rate), Refusal::Rate),
+        (
+            counts_bad(call.count0, call.count1, call.count2),
+            Refusal::Design,
+        ),
+    ])
 }
 
 // Line 7 but for coefficients and sine and arctangent numbers.
@@ -184,19 +175,13 @@ fn writes_short(call: CallNumbers, l: WriteLengths) -> bool
         | short(state_length(call.lanes), l.dec)
 }
 
-// The number of a block run: the first line that holds, and 0 where it is accepted.
-pub fn refused(call: CallNumbers, reads: ReadLengths, writes: WriteLengths) -> u32
-    ensures { result ≡ block_refusal call reads writes }
+// A block run, by the first line that holds.
+pub fn check(call: CallNumbers, reads: ReadLengths, writes: WriteLengths) -> Result<(), Refusal>
+    ensures { number_of result ≡ block_refusal call reads writes }
 {
-    let number = numbers_refused(call);
-    if number != 0 {
-        return number;
-    }
-    if reads_short(call, reads) {
-        return 7;
-    }
-    if writes_short(call, writes) {
-        return 8;
-    }
-    0
+    check_numbers(call)?;
+    check_lines(&[
+        (reads_short(call, reads), Refusal::ShortRead),
+        (writes_short(call, writes), Refusal::ShortWrite),
+    ])
 }

@@ -3,6 +3,7 @@ ghost use Rattle.std.specs.Prelude.{◌≡◌, ◌≤◌, length};
 ghost use Rattle.limits.specs.Lengths.{coefs_length, numbers_length};
 ghost use Rattle.block.specs.Numbers.{numbers_of, settings_of};
 
+use crate::refusal::CallNumbers;
 use halfband::designs_of;
 use lanes::Numbers;
 use phase::Slot;
@@ -16,51 +17,38 @@ pub fn numbers_of(xs: &[f32]) -> Numbers
 {
     let sin = [xs[0], xs[1], xs[2], xs[3], xs[4]];
     let atan = [xs[5], xs[6], xs[7], xs[8], xs[9], xs[10], xs[11], xs[12]];
-    Numbers {
-        sin: sin,
-        atan: atan,
-    }
+    Numbers { sin, atan }
 }
 
+#[tactic(auto, unfolding(crate::specs::Numbers::settings_of))]
 pub fn settings_of(
-    mode0: u32,
-    mode1: u32,
+    call: CallNumbers,
     character0: f32,
     character1: f32,
-    factor: u32,
-    lanes: u32,
-    frames: u32,
-    rate: u32,
-    count0: u32,
-    count1: u32,
-    count2: u32,
     coefs: &[f32],
     numbers: &[f32],
 ) -> BlockSettings
-    requires fact_1 { coefs_length ≤ length coefs.now }
-    requires fact_2 { numbers_length ≤ length numbers.now }
-    ensures { result ≡ settings_of mode0 mode1 character0 character1 factor lanes frames rate count0 count1 count2
-        coefs.now numbers.now }
+    requires coefs_whole { coefs_length ≤ length coefs.now }
+    requires numbers_whole { numbers_length ≤ length numbers.now }
+    ensures { result ≡ settings_of call.mode0 call.mode1 character0 character1 call.factor call.lanes call.frames call.rate
+        call.count0 call.count1 call.count2 coefs.now numbers.now }
 {
-    let designs = designs_of(coefs, count0, count1, count2);
-    let taken = numbers_of(numbers);
-    let shaper = Settings {
-        slot0: Slot {
-            mode: mode0,
-            character: character0,
-        },
-        slot1: Slot {
-            mode: mode1,
-            character: character1,
-        },
-        factor: factor,
-        lanes: lanes,
-        frames: frames,
-        numbers: taken,
-    };
     BlockSettings {
-        shaper: shaper,
-        rate: rate,
-        designs: designs,
+        shaper: Settings {
+            slot0: Slot {
+                mode: call.mode0,
+                character: character0,
+            },
+            slot1: Slot {
+                mode: call.mode1,
+                character: character1,
+            },
+            factor: call.factor,
+            lanes: call.lanes,
+            frames: call.frames,
+            numbers: numbers_of(numbers),
+        },
+        rate: call.rate,
+        designs: designs_of(coefs, [call.count0, call.count1, call.count2]),
     }
 }

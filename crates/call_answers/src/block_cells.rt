@@ -1,10 +1,10 @@
 // The cells of a block's buffers, made of draws: at the most four lanes and 40 host frames.
-ghost use Rattle.std.specs.Prelude.{◌<◌};
-
-use crate::numbers::{plus, step_of};
-use answers::cells::{Kind, draw_cells, folded_cells};
+use crate::numbers::step_of;
+use answers::cells::cell;
+use answers::hash::Hash;
 use answers::phases::slope_table;
-use answers::random::next;
+use answers::random::Random;
+use answers::waves::sample;
 
 // The curve of a block: the lent one, or one of its seed's own.
 pub fn curve_of(table: &[f32; 1025], seed: u32) -> [f32; 1025] {
@@ -15,92 +15,58 @@ pub fn curve_of(table: &[f32; 1025], seed: u32) -> [f32; 1025] {
     }
 }
 
-// Draws what is only read after the state `s`; gives the state after it.
-pub fn draw_inputs(seed: u32, s: u32, controls: &mut [f32; 648], cycle: &mut [f32; 2048]) -> u32 {
-    let s = draw_cells(seed, Kind::Controls(328), s, controls);
-    draw_cells(seed, Kind::Sample, s, cycle)
+// What a call changes.
+#[derive(Clone, Copy)]
+pub struct Voices {
+    pub output: [f32; 160],
+    pub work: [f32; 1280],
+    pub pairs: [f32; 16],
+    pub fm: [f32; 8],
+    pub last: [f32; 4],
+    pub state: [f32; 288],
 }
 
-// The same with the spans.
-pub fn draw_spans(
-    seed: u32,
-    s: u32,
-    inner: &mut [f32; 8],
-    stretch: &mut [f32; 8],
-    add: &mut [f32; 8],
-) -> u32 {
-    let s = draw_cells(seed, Kind::Stretch, s, inner);
-    let s = draw_cells(seed, Kind::Stretch, s, stretch);
-    draw_cells(seed, Kind::Slope, s, add)
-}
-
-// The same with what a call changes.
-pub fn draw_voices(
-    seed: u32,
-    s: u32,
-    output: &mut [f32; 160],
-    work: &mut [f32; 1280],
-    pairs: &mut [f32; 16],
-    fm: &mut [f32; 8],
-    last: &mut [f32; 4],
-    state: &mut [f32; 288],
-) -> u32 {
-    let s = draw_cells(seed, Kind::Sample, s, output);
-    let s = draw_cells(seed, Kind::Sample, s, work);
-    let s = draw_cells(seed, Kind::Sample, s, pairs);
-    let s = draw_cells(seed, Kind::Half, s, fm);
-    let s = draw_cells(seed, Kind::Sample, s, last);
-    draw_cells(seed, Kind::Sample, s, state)
-}
-
-// The same with steps.
-pub fn draw_steps(seed: u32, s: u32, steps: &mut [u32; 1280]) -> u32 {
-    let mut s = s;
-    for i in 0..1280usize {
-        s = next(s);
-        steps[i] = step_of(seed, s);
+impl Voices {
+    pub fn drawn(seed: u32, random: &mut Random) -> Voices {
+        let sample_cell = |draw| cell(seed, draw, sample(draw));
+        Voices {
+            output: random.cells(sample_cell),
+            work: random.cells(sample_cell),
+            pairs: random.cells(sample_cell),
+            fm: random.cells(|draw| cell(seed, draw, sample(draw) * 0.5)),
+            last: random.cells(sample_cell),
+            state: random.cells(sample_cell),
+        }
     }
-    s
+
+    pub fn put_to(&self, hash: &mut Hash) {
+        hash.put_floats(&self.output);
+        hash.put_floats(&self.work);
+        hash.put_floats(&self.pairs);
+        hash.put_floats(&self.fm);
+        hash.put_floats(&self.last);
+        hash.put_floats(&self.state);
+    }
 }
 
-// Seven words of eight go on from the row before by its step, so that a lane reads near an entry again.
-fn word_at(i: usize, n: usize, draw: u32, steps: &[u32; 1280], words: &[u32; 1280]) -> u32
-    requires { i < 1280 }
-{
-    if i < n {
-        return draw;
-    }
-    if draw % 8 == 0 {
-        return draw;
-    }
-    let before = i - n;
-    plus(words[before], steps[before])
+// Phase words and their steps: two buffers, as a block run is lent them.
+#[derive(Clone, Copy)]
+pub struct Words {
+    pub steps: [u32; 1280],
+    pub words: [u32; 1280],
 }
 
-// The same with words; `n` lanes.
-pub fn draw_words(s: u32, n: usize, steps: &[u32; 1280], words: &mut [u32; 1280]) -> u32 {
-    let mut s = s;
-    for i in 0..1280usize {
-        s = next(s);
-        words[i] = word_at(i, n, s, steps, words);
+impl Words {
+    // Seven words of eight go on from the row before by its step, so that a lane reads near an entry again. By
+    // index, since a word is made of an earlier one.
+    pub fn drawn(seed: u32, lanes: usize, random: &mut Random) -> Words {
+        let steps = random.draws::<1280>().map(|draw| step_of(seed, draw));
+        let mut words = random.draws::<1280>();
+        for i in lanes..1280 {
+            if words[i] % 8 != 0 {
+                words[i] = words[i - lanes].wrapping_add(steps[i - lanes]);
+            }
+        }
+        Words { steps, words }
     }
-    s
-}
-
-// What a call changes, put to the hash.
-pub fn folded_voices(
-    h: u64,
-    output: &[f32; 160],
-    work: &[f32; 1280],
-    pairs: &[f32; 16],
-    fm: &[f32; 8],
-    last: &[f32; 4],
-    state: &[f32; 288],
-) -> u64 {
-    let h = folded_cells(h, output);
-    let h = folded_cells(h, work);
-    let h = folded_cells(h, pairs);
-    let h = folded_cells(h, fm);
-    let h = folded_cells(h, last);
-    folded_cells(h, state)
 }

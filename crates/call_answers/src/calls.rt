@@ -1,13 +1,17 @@
 // Calls about one lane or about a block's spans, made of draws: at the most four lanes and 72 host frames.
+ghost use Rattle.std.specs.Prelude.{◌<◌, ◌≤◌};
+
+use crate::faults::{Fault, fault_of_call, put};
 use crate::numbers::{
-    Draws, Inputs, active_of, active_with, below, character_of, cut, frames_of, inputs_of,
-    lanes_of, minus, plus, put, rate_of, step_of,
+    Draws, active_of, active_with, below, character_of, frames_of, lanes_of, rate_of, step_of,
 };
 use answers::cells::cell;
 use answers::phases::around;
-use answers::random::ModesRun;
+use answers::runs::ModesRun;
 use answers::waves::sample;
 use grid::place;
+use phase::Slot;
+use shaper::{Range, Settings};
 
 // The numbers of a block, and of the range and the frames in it that a call is about. The factor is
 // 2^`shift`.
@@ -21,44 +25,66 @@ struct Place {
     left: u32,
     count: u32,
     frame: u32,
+    ghost shifted: { shift < 4 },
+    ghost some: { 0 < lanes },
+    ghost few: { lanes ≤ 4 },
 }
 
-fn place_of(sizes: u32, range: u32) -> Place {
-    let shift = sizes % 4;
-    let lanes = lanes_of(sizes);
-    let frames = frames_of(sizes, 72);
-    let first = below(range, frames);
-    let left = minus(frames, first);
-    let some = plus(1, below(range / 0x1000, left));
-    let count = if range < 0x8000_0000 { left } else { some };
-    let host = below(range / 0x1_0000, count);
-    Place {
-        shift,
-        lanes,
-        active: active_of(sizes, lanes),
-        frames,
-        first,
-        left,
-        count,
-        frame: plus(host << shift, below(range / 0x100, 1 << shift)),
+impl Place {
+    fn new(sizes: u32, range: u32) -> Place {
+        let shift = sizes % 4;
+        let lanes = lanes_of(sizes);
+        let frames = frames_of(sizes, 72);
+        let first = below(range, frames);
+        let left = frames.wrapping_sub(first);
+        let some = below(range / 0x1000, left).wrapping_add(1);
+        let count = if range < 0x8000_0000 { left } else { some };
+        let host = below(range / 0x1_0000, count);
+        Place {
+            shift,
+            lanes,
+            active: active_of(sizes, lanes),
+            frames,
+            first,
+            left,
+            count,
+            frame: (host << shift).wrapping_add(below(range / 0x100, 1 << shift)),
+        }
     }
-}
 
-// How many frames from `frame` on a stretch is asked for: none, one or all; to the end of the range's
-// first 32 host frames or one more, if the range goes on behind it; or some.
-fn asked_of(how: u32, draw: u32, p: Place) -> u32 {
-    let rendered = p.count << (p.shift % 4);
-    let rest = minus(rendered, p.frame);
-    let edge = (32 - p.first % 32) << (p.shift % 4);
-    match how % 8 {
-        0 => 0,
-        1 => 1,
-        2 => rest,
-        _ => if (p.frame < edge) & (edge < rendered) {
-            plus(minus(edge, p.frame), draw % 2)
-        } else {
-            below(draw, plus(rest, 1))
-        },
+    // How many rendered frames the range has.
+    fn rendered(self) -> u32 {
+        self.count << self.shift
+    }
+
+    // How many frames from `frame` on a stretch is asked for: none, one or all; to the end of the range's
+    // first 32 host frames or one more, if the range goes on behind it; or some.
+    fn asked(self, how: u32, draw: u32) -> u32 {
+        let rest = self.rendered().wrapping_sub(self.frame);
+        let edge = (32 - self.first % 32) << self.shift;
+        match how % 8 {
+            0 => 0,
+            1 => 1,
+            2 => rest,
+            _ => if self.frame < edge && edge < self.rendered() {
+                edge.wrapping_sub(self.frame).wrapping_add(draw % 2)
+            } else {
+                below(draw, rest.wrapping_add(1))
+            },
+        }
+    }
+
+    // A cell less than a row.
+    fn short_row(self) -> usize
+        ensures { result < self.lanes }
+    {
+        self.lanes as usize - 1
+    }
+
+    // A cell less than a row for each 32 host frames.
+    fn short_rows(self) -> usize {
+        let row = self.frames.wrapping_sub(1) / 32 % 4;
+        place(row as usize, self.lanes as usize, self.short_row())
     }
 }
 
@@ -71,83 +97,63 @@ fn word_of(how: u32, draw: u32) -> u32 {
     }
 }
 
-// The numbers of a call; each kind of call takes some of them.
+// What a call is asked; each kind of call takes some of it. Where the fault is a buffer that is short, `row` and
+// `rows` are a cell less than one row, and than a row for each 32 host frames.
 #[derive(Clone, Copy)]
 pub struct Call {
-    pub mode0: u32,
-    pub mode1: u32,
-    pub character0: f32,
-    pub character1: f32,
-    pub factor: u32,
-    pub lanes: u32,
+    pub settings: Settings,
     pub active: u32,
     pub lane: u32,
-    pub frames: u32,
-    pub first: u32,
-    pub count: u32,
+    pub range: Range,
     pub frame: u32,
     pub asked: u32,
     pub rate: u32,
     pub word: u32,
     pub step: u32,
     pub x: f32,
+    pub fault: Option<Fault>,
+    pub row: usize,
+    pub rows: usize,
 }
 
-pub fn call_of(run: ModesRun, d: Draws) -> Call {
-    let seed = run.seed;
-    let how = d.how;
-    let fault = how / 0x400_0000;
-    let p = place_of(d.sizes, d.range);
-    let rendered = p.count << (p.shift % 4);
-    let lane = below(how, p.active);
-    let asked = asked_of(how / 0x4_0000, d.place / 4, p);
-    let over = plus(minus(rendered, p.frame), 1);
-    Call {
-        mode0: put(fault, 0, 70, run.mode0),
-        mode1: put(fault, 1, 70, run.mode1),
-        character0: character_of(seed, d.character0),
-        character1: character_of(seed, d.character1),
-        factor: put(fault, 2, 3, 1 << (p.shift % 4)),
-        lanes: p.lanes,
-        active: active_with(fault, p.lanes, p.active),
-        lane: put(fault, 4, p.active, lane),
-        frames: put(fault, 6, 0, p.frames),
-        first: p.first,
-        count: put(fault, 7, plus(p.left, 1), p.count),
-        frame: put(fault, 8, rendered, p.frame),
-        asked: put(fault, 8, 0, put(fault, 10, over, asked)),
-        rate: put(fault, 9, 7999, rate_of(d.rate)),
-        word: word_of(how / 0x1_0000, d.place),
-        step: step_of(seed, d.step),
-        x: cell(seed, d.x, sample(d.x)),
-    }
-}
-
-// How many cells a call is lent of the buffers that may be absent or one cell short.
-#[derive(Clone, Copy)]
-pub struct Lent {
-    pub base0: usize,
-    pub inputs: Inputs,
-    pub last: usize,
-    pub stretch: usize,
-    pub add: usize,
-}
-
-// A row of `base0` and of `last` is asked for, and a row each 32 host frames of `stretch` and `add`: short
-// of a cell they end before the last row's last lane.
-pub fn lent_of(d: Draws) -> Lent {
-    let how = d.how;
-    let fault = how / 0x400_0000;
-    let p = place_of(d.sizes, d.range);
-    let n = lanes_of(d.sizes) as usize;
-    let row = (minus(p.frames, 1) / 32 % 4) as usize;
-    let end = place(row, n, n - 1);
-    let inputs = inputs_of(how, 288);
-    Lent {
-        base0: cut(fault, 11, n - 1, 4),
-        inputs,
-        last: cut(fault, 12, n - 1, 4),
-        stretch: cut(fault, 11, end, 12),
-        add: cut(fault, 12, end, 12),
+impl Call {
+    pub fn new(run: ModesRun, d: Draws) -> Call {
+        let seed = run.seed;
+        let how = d.how;
+        let fault = fault_of_call(how);
+        let p = Place::new(d.sizes, d.range);
+        let over = p.rendered().wrapping_sub(p.frame).wrapping_add(1);
+        let asked = put(fault, Fault::Frame, 0, p.asked(how / 0x4_0000, d.place / 4));
+        Call {
+            settings: Settings {
+                slot0: Slot {
+                    mode: put(fault, Fault::Mode0, 70, run.mode0),
+                    character: character_of(seed, d.character0),
+                },
+                slot1: Slot {
+                    mode: put(fault, Fault::Mode1, 70, run.mode1),
+                    character: character_of(seed, d.character1),
+                },
+                factor: put(fault, Fault::Factor, 3, 1 << p.shift),
+                lanes: p.lanes,
+                frames: put(fault, Fault::NoFrames, 0, p.frames),
+                numbers: lanes::rust_numbers(),
+            },
+            active: active_with(fault, p.lanes, p.active),
+            lane: put(fault, Fault::Lane, p.active, below(how, p.active)),
+            range: Range {
+                first: p.first,
+                count: put(fault, Fault::Count, p.left.wrapping_add(1), p.count),
+            },
+            frame: put(fault, Fault::Frame, p.rendered(), p.frame),
+            asked: put(fault, Fault::Asked, over, asked),
+            rate: put(fault, Fault::Rate, 7999, rate_of(d.rate)),
+            word: word_of(how / 0x1_0000, d.place),
+            step: step_of(seed, d.step),
+            x: cell(seed, d.x, sample(d.x)),
+            fault,
+            row: p.short_row(),
+            rows: p.short_rows(),
+        }
     }
 }

@@ -6,8 +6,8 @@
 pub mod block_calls;
 pub mod block_cells;
 pub mod calls;
+pub mod drawn_controls;
+pub mod faults;
 pub mod numbers;
-pub mod parts;
-pub mod runs;
 pub mod singles;
 pub mod stretches;

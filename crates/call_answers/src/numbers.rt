@@ -1,10 +1,11 @@
 // The numbers that calls about a lane, about a block's spans and about its ranges are made of alike: draws,
-// and what is made of one draw. Some calls have a fault, so that they are turned down.
-ghost use Rattle.std.specs.Prelude.{◌≡◌, ◌+◌, ◌%◌, ◌^◌, ◌<◌, ◌≤◌};
+// and what is made of one draw.
+ghost use Rattle.std.specs.Prelude.{◌≡◌, ◌%◌, ◌<◌, ◌≤◌};
 
+use crate::faults::{Fault, put};
 use answers::cells::cell;
 use answers::phases::fraction;
-use answers::random::next;
+use answers::random::Random;
 
 // The draws that a call is made of.
 #[derive(Clone, Copy)]
@@ -20,27 +21,30 @@ pub struct Draws {
     pub x: u32,
 }
 
-// Nine draws after the state `s`; the last is the state after them.
-pub fn drawn(s: u32) -> Draws {
-    let sizes = next(s);
-    let range = next(sizes);
-    let how = next(range);
-    let rate = next(how);
-    let place = next(rate);
-    let step = next(place);
-    let character0 = next(step);
-    let character1 = next(character0);
-    let x = next(character1);
-    Draws {
-        sizes,
-        range,
-        how,
-        rate,
-        place,
-        step,
-        character0,
-        character1,
-        x,
+impl Draws {
+    pub fn new(random: &mut Random) -> Draws {
+        let [
+            sizes,
+            range,
+            how,
+            rate,
+            place,
+            step,
+            character0,
+            character1,
+            x,
+        ] = random.draws::<9>();
+        Draws {
+            sizes,
+            range,
+            how,
+            rate,
+            place,
+            step,
+            character0,
+            character1,
+            x,
+        }
     }
 }
 
@@ -48,20 +52,7 @@ pub fn drawn(s: u32) -> Draws {
 pub fn below(draw: u32, n: u32) -> u32
     ensures { 0 < n → result ≡ draw % n }
 {
-    if n == 0 { 0 } else { draw % n }
-}
-
-// Numbers of frames and lanes are small, so that neither wraps.
-pub fn minus(a: u32, b: u32) -> u32
-    ensures { (result + b) % 2 ^ 32 ≡ a }
-{
-    std::num::wrapping_sub_u32(a, b)
-}
-
-pub fn plus(a: u32, b: u32) -> u32
-    ensures { result ≡ (a + b) % 2 ^ 32 }
-{
-    std::num::wrapping_add_u32(a, b)
+    draw.checked_rem(n).unwrap_or(0)
 }
 
 pub fn lanes_of(sizes: u32) -> u32
@@ -71,13 +62,13 @@ pub fn lanes_of(sizes: u32) -> u32
 }
 
 pub fn active_of(sizes: u32, lanes: u32) -> u32 {
-    minus(lanes, below(sizes / 0x100, lanes))
+    lanes.wrapping_sub(below(sizes / 0x100, lanes))
 }
 
 // A block's host frames: one time of four 6 at the most.
 pub fn frames_of(sizes: u32, most: u32) -> u32 {
     let most = if sizes / 0x1000 % 4 == 0 { 6 } else { most };
-    plus(1, below(sizes / 0x1_0000, most))
+    below(sizes / 0x1_0000, most).wrapping_add(1)
 }
 
 // Words a rendered frame: 0, to 1/64 of a cycle, or with an odd seed any.
@@ -101,40 +92,8 @@ pub fn character_of(seed: u32, draw: u32) -> f32 {
     cell(seed, draw, fraction(draw))
 }
 
-// `new` where the call has the fault, else `old`.
-pub fn put(fault: u32, at: u32, new: u32, old: u32) -> u32 {
-    if fault == at { new } else { old }
-}
-
-// The whole buffer, or with the fault one cell less than the call asks for.
-pub fn cut(fault: u32, at: u32, short: usize, whole: usize) -> usize {
-    if fault == at { short } else { whole }
-}
-
 // The number of active lanes as a call with the fault has it.
-pub fn active_with(fault: u32, lanes: u32, active: u32) -> u32 {
-    put(fault, 3, plus(lanes, 1), put(fault, 5, 0, active))
-}
-
-// How many cells a call is lent of what may be absent.
-#[derive(Clone, Copy)]
-pub struct Inputs {
-    pub mod0: usize,
-    pub mod1: usize,
-    pub source0: usize,
-    pub source1: usize,
-}
-
-// A modulation or a source, of `whole` cells: absent one time of four.
-fn given(draw: u32, whole: usize) -> usize {
-    if draw % 4 == 0 { 0 } else { whole }
-}
-
-pub fn inputs_of(how: u32, whole: usize) -> Inputs {
-    Inputs {
-        mod0: given(how / 0x100, whole),
-        mod1: given(how / 0x400, whole),
-        source0: given(how / 0x1000, whole),
-        source1: given(how / 0x4000, whole),
-    }
+pub fn active_with(fault: Option<Fault>, lanes: u32, active: u32) -> u32 {
+    let active = put(fault, Fault::NoneActive, 0, active);
+    put(fault, Fault::ManyActive, lanes.wrapping_add(1), active)
 }

@@ -1,129 +1,55 @@
 // The block run and a lane's for C, in one: what both exports call is compiled once, with all that it calls.
 ghost use Rattle.std.specs.Prelude.{length};
-ghost use Rattle.render.specs.Promises.{lent};
+ghost use Rattle.limits.specs.Refusals.{answer_of};
+ghost use Rattle.render.specs.Slices.{lent_lists};
 ghost use Rattle.share.specs.Share.{buffers};
 ghost use Rattle.block.specs.Call.{called};
 ghost use Rattle.block.specs.Numbers.{settings_of, range_of};
 ghost use Rattle.lane_run.specs.Either.{EitherMeets};
 
-use block::{CallNumbers, read_lengths, run_lanes, settings_of, write_lengths};
-use lane_run::{interval_of, refused_either};
-use limits::Answer;
+use block::{CallNumbers, LentSlices, read_lengths, run_lanes, settings_of, write_lengths};
+use lane_run::{check_either, interval_of};
+use limits::Refusal;
 use shaper::Range;
 
-// Where `one` is true the lane's run, else the block run. Coefficients and sine and arctangent numbers come on
-// slices, which are read once they are known to be long enough.
+// Where a lane is given that lane's run, else the block run; an accepted call's frames. Coefficients and sine and
+// arctangent numbers come on slices, which are read once they are known to be long enough.
 pub fn run_either(
-    one: bool,
-    mode0: u32,
-    mode1: u32,
+    lane: Option<u32>,
+    call: CallNumbers,
     character0: f32,
     character1: f32,
-    factor: u32,
-    lanes: u32,
-    active: u32,
-    lane: u32,
-    frames: u32,
-    first: u32,
-    count: u32,
-    rate: u32,
-    count0: u32,
-    count1: u32,
-    count2: u32,
     coefs: &[f32],
     numbers: &[f32],
-    base0: &[f32],
-    base1: &[f32],
-    mod0: &[f32],
-    mod1: &[f32],
-    source0: &[f32],
-    source1: &[f32],
-    curve: &[f32],
-    cycle: &[f32],
-    words: &[u32],
-    steps: &[u32],
-    inner: &[f32],
+    lent: &LentSlices<'_>,
     output: &mut [f32],
     work: &mut [f32],
     pairs: &mut [f32],
     fm: &mut [f32],
     last: &mut [f32],
     dec: &mut [f32],
-) -> Answer
-    ensures { EitherMeets one (called
-        (settings_of mode0 mode1 character0 character1 factor lanes frames rate count0 count1 count2 coefs.now numbers.now)
-        (range_of first count) active (length coefs.now) (length numbers.now)
-        (lent base0.now base1.now mod0.now mod1.now source0.now source1.now curve.now cycle.now words.now steps.now inner.now)
+) -> Result<u32, Refusal>
+    ensures { EitherMeets lane (called
+        (settings_of call.mode0 call.mode1 character0 character1 call.factor call.lanes call.frames call.rate
+        call.count0 call.count1 call.count2 coefs.now numbers.now)
+        (range_of call.first call.count) call.active (length coefs.now) (length numbers.now) (lent_lists lent.now)
         (buffers output.old work.old pairs.old fm.old last.old dec.old)
-        (buffers output.new work.new pairs.new fm.new last.new dec.new) result) lane }
+        (buffers output.new work.new pairs.new fm.new last.new dec.new) (answer_of result)) }
 {
-    let number = refused_either(
-        one,
+    check_either(
         lane,
-        CallNumbers {
-            mode0,
-            mode1,
-            factor,
-            lanes,
-            active,
-            frames,
-            first,
-            count,
-            rate,
-            count0,
-            count1,
-            count2,
-        },
-        read_lengths(
-            base0,
-            base1,
-            mod0,
-            mod1,
-            source0,
-            source1,
-            curve,
-            cycle,
-            words,
-            steps,
-            inner,
-            coefs.len(),
-            numbers.len(),
-        ),
+        call,
+        read_lengths(lent, coefs.len(), numbers.len()),
         write_lengths(output, work, pairs, fm, last, dec),
-    );
-    if number != 0 {
-        return Answer { number, frames: 0 };
-    }
-    let b = settings_of(
-        mode0, mode1, character0, character1, factor, lanes, frames, rate, count0, count1, count2,
-        coefs, numbers,
-    );
-    let asked = interval_of(one, lane, active);
+    )?;
+    let b = settings_of(call, character0, character1, coefs, numbers);
+    let r = Range {
+        first: call.first,
+        count: call.count,
+    };
+    let asked = interval_of(lane, call.active);
     run_lanes(
-        b,
-        Range { first, count },
-        asked.from,
-        asked.to,
-        base0,
-        base1,
-        mod0,
-        mod1,
-        source0,
-        source1,
-        curve,
-        cycle,
-        words,
-        steps,
-        inner,
-        output,
-        work,
-        pairs,
-        fm,
-        last,
-        dec,
+        b, r, asked.from, asked.to, lent, output, work, pairs, fm, last, dec,
     );
-    Answer {
-        number: 0,
-        frames: count,
-    }
+    Ok(call.count)
 }

@@ -7,6 +7,8 @@ ghost use Rattle.block.specs.Numbers.{settings_of, range_of};
 ghost use Rattle.lane_run.specs.LaneCall.{LaneMeets};
 
 use crate::either::run_either;
+use block::{CallNumbers, LentSlices, Rows};
+use controls::ControlSlices;
 use limits::Answer;
 
 // `lane_run::lane_run` with coefficients and sine and arctangent numbers on slices.
@@ -54,9 +56,40 @@ pub extern "C" fn shaper_lane_run(
         (buffers output.old work.old pairs.old fm.old last.old dec.old)
         (buffers output.new work.new pairs.new fm.new last.new dec.new) result) lane }
 {
-    run_either(
-        true, mode0, mode1, character0, character1, factor, lanes, active, lane, frames, first,
-        count, rate, count0, count1, count2, coefs, numbers, base0, base1, mod0, mod1, source0,
-        source1, curve, cycle, words, steps, inner, output, work, pairs, fm, last, dec,
-    )
+    let lent = LentSlices {
+        rows: Rows {
+            controls: ControlSlices {
+                base0,
+                base1,
+                mod0,
+                mod1,
+                source0,
+                source1,
+            },
+            words,
+            steps,
+            inner,
+        },
+        curve,
+        cycle,
+    };
+    let call = CallNumbers {
+        mode0,
+        mode1,
+        factor,
+        lanes,
+        active,
+        frames,
+        first,
+        count,
+        rate,
+        count0,
+        count1,
+        count2,
+    };
+    let asked = Some(lane);
+    Answer::from(run_either(
+        asked, call, character0, character1, coefs, numbers, &lent, output, work, pairs, fm, last,
+        dec,
+    ))
 }

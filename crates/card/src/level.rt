@@ -1,13 +1,33 @@
 // Which amount gives a level.
 ghost use Rattle.std.specs.Prelude.{◌≡◌, length};
 ghost use Rattle.block.specs.Numbers.{numbers_of};
-ghost use Rattle.levels.specs.Found.{found_of};
+ghost use Rattle.levels.specs.Found.{found_answer, found_of};
 
 use block::numbers_of;
-use levels::{Found, refused, searched};
+use levels::{Found, Search, check, searched};
+use limits::Refusal;
 
 // `levels::amount_for` with sine and arctangent numbers on a slice, which is read once it is known to be
 // long enough.
+fn amount_for(
+    mode: u32,
+    sample: f32,
+    wanted: f32,
+    tolerance: f32,
+    numbers: &[f32],
+) -> Result<u32, Refusal>
+    ensures { found_answer result ≡ found_of (numbers_of numbers.now).sin (length numbers.now) mode sample wanted tolerance }
+{
+    check(mode, numbers.len())?;
+    searched(Search {
+        numbers: numbers_of(numbers),
+        mode,
+        sample,
+        wanted,
+        tolerance,
+    })
+}
+
 #[unsafe(no_mangle)]
 pub extern "C" fn shaper_amount_for(
     mode: u32,
@@ -18,13 +38,5 @@ pub extern "C" fn shaper_amount_for(
 ) -> Found
     ensures { result ≡ found_of (numbers_of numbers.now).sin (length numbers.now) mode sample wanted tolerance }
 {
-    let number = refused(mode, numbers.len());
-    if number != 0 {
-        return Found {
-            number: number,
-            hundredths: 0,
-        };
-    }
-    let taken = numbers_of(numbers);
-    searched(taken, mode, sample, wanted, tolerance)
+    Found::from(amount_for(mode, sample, wanted, tolerance, numbers))
 }

@@ -1,15 +1,45 @@
 // The picture on a panel.
 ghost use Rattle.std.specs.Prelude.{length};
 ghost use Rattle.block.specs.Numbers.{numbers_of};
+ghost use Rattle.limits.specs.Refusals.{answer_of};
 ghost use Rattle.preview.specs.Drawn.{slot_of, Drawn};
 
 use block::numbers_of;
-use limits::Answer;
-use phase::Slot;
-use preview::{preview_taken, refused};
+use curve::Curve;
+use limits::{Answer, Refusal};
+use phase::{Slot, Tables};
+use preview::{PanelSlot, check, draw};
+use reads::Cycle;
 
 // `preview::preview` with sine and arctangent numbers on a slice, which is read once it is known to be long
 // enough.
+fn preview(
+    panel0: PanelSlot,
+    panel1: PanelSlot,
+    numbers: &[f32],
+    curve: &[f32],
+    cycle: &[f32],
+    picture: &mut [f32],
+) -> Result<u32, Refusal>
+    ensures { Drawn panel0.slot panel1.slot panel0.percent panel1.percent (numbers_of numbers.now) (length numbers.now) curve.now cycle.now
+        picture.old picture.new (answer_of result) }
+{
+    check(
+        panel0.slot.mode,
+        panel1.slot.mode,
+        picture.len(),
+        curve.len(),
+        cycle.len(),
+        numbers.len(),
+    )?;
+    let tables = Tables {
+        numbers: numbers_of(numbers),
+        curve: Curve { values: curve },
+    };
+    let cycle = Cycle { samples: cycle };
+    Ok(draw(tables, cycle, panel0, panel1, picture))
+}
+
 #[unsafe(no_mangle)]
 pub extern "C" fn shaper_preview(
     mode0: u32,
@@ -26,28 +56,19 @@ pub extern "C" fn shaper_preview(
     ensures { Drawn (slot_of mode0 character0) (slot_of mode1 character1) amount0 amount1 (numbers_of numbers.now) (length numbers.now)
         curve.now cycle.now picture.old picture.new result }
 {
-    let number = refused(
-        mode0,
-        mode1,
-        picture.len(),
-        curve.len(),
-        cycle.len(),
-        numbers.len(),
-    );
-    if number != 0 {
-        return Answer {
-            number: number,
-            frames: 0,
-        };
-    }
-    let taken = numbers_of(numbers);
-    let slot0 = Slot {
-        mode: mode0,
-        character: character0,
+    let panel0 = PanelSlot {
+        slot: Slot {
+            mode: mode0,
+            character: character0,
+        },
+        percent: amount0,
     };
-    let slot1 = Slot {
-        mode: mode1,
-        character: character1,
+    let panel1 = PanelSlot {
+        slot: Slot {
+            mode: mode1,
+            character: character1,
+        },
+        percent: amount1,
     };
-    preview_taken(slot0, slot1, amount0, amount1, taken, curve, cycle, picture)
+    Answer::from(preview(panel0, panel1, numbers, curve, cycle, picture))
 }

@@ -3,7 +3,9 @@ ghost use Rattle.controls.specs.Controls.{control_buffers};
 ghost use Rattle.spans.specs.Prepared.{spans, Prepared};
 ghost use Rattle.spans.specs.Asked.{Faster};
 
+use controls::ControlSlices;
 use limits::{Answer, Valued};
+use spans::{PrepareNumbers, StretchNumbers, prepare};
 
 // `prepare` of mod.rs.
 #[unsafe(no_mangle)]
@@ -30,10 +32,24 @@ pub extern "C" fn shaper_prepare(
         (control_buffers base0.now base1.now mod0.now mod1.now source0.now source1.now) curve.now
         (spans inner.old stretch.old add.old) (spans inner.new stretch.new add.new) result }
 {
-    spans::prepare(
-        mode0, mode1, factor, lanes, active, frames, rate, base0, base1, mod0, mod1, source0,
-        source1, curve, inner, stretch, add,
-    )
+    let block = PrepareNumbers {
+        mode0,
+        mode1,
+        factor,
+        lanes,
+        active,
+        frames,
+        rate,
+    };
+    let controls = ControlSlices {
+        base0,
+        base1,
+        mod0,
+        mod1,
+        source0,
+        source1,
+    };
+    Answer::from(prepare(block, &controls, curve, inner, stretch, add))
 }
 
 // `PhaseRun::stretch`, for a host that picks a band-limited cycle by it.
@@ -54,7 +70,7 @@ pub extern "C" fn shaper_stretch(
 ) -> Valued
     ensures { Faster factor lanes active lane frames first count asked_first asked step stretch.now add.now result }
 {
-    spans::stretch(
+    let call = StretchNumbers {
         factor,
         lanes,
         active,
@@ -65,7 +81,6 @@ pub extern "C" fn shaper_stretch(
         asked_first,
         asked,
         step,
-        stretch,
-        add,
-    )
+    };
+    Valued::from(spans::stretch(call, stretch, add))
 }

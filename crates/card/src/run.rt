@@ -6,6 +6,8 @@ ghost use Rattle.block.specs.Call.{called, Meets};
 ghost use Rattle.block.specs.Numbers.{settings_of, range_of};
 
 use crate::either::run_either;
+use block::{CallNumbers, LentSlices, Rows};
+use controls::ControlSlices;
 use limits::Answer;
 
 // `block::block_run` with coefficients and sine and arctangent numbers on slices.
@@ -52,9 +54,40 @@ pub extern "C" fn shaper_block_run(
         (buffers output.old work.old pairs.old fm.old last.old dec.old)
         (buffers output.new work.new pairs.new fm.new last.new dec.new) result) }
 {
-    run_either(
-        false, mode0, mode1, character0, character1, factor, lanes, active, 0, frames, first,
-        count, rate, count0, count1, count2, coefs, numbers, base0, base1, mod0, mod1, source0,
-        source1, curve, cycle, words, steps, inner, output, work, pairs, fm, last, dec,
-    )
+    let lent = LentSlices {
+        rows: Rows {
+            controls: ControlSlices {
+                base0,
+                base1,
+                mod0,
+                mod1,
+                source0,
+                source1,
+            },
+            words,
+            steps,
+            inner,
+        },
+        curve,
+        cycle,
+    };
+    let call = CallNumbers {
+        mode0,
+        mode1,
+        factor,
+        lanes,
+        active,
+        frames,
+        first,
+        count,
+        rate,
+        count0,
+        count1,
+        count2,
+    };
+    let asked = None;
+    Answer::from(run_either(
+        asked, call, character0, character1, coefs, numbers, &lent, output, work, pairs, fm, last,
+        dec,
+    ))
 }

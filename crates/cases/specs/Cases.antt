@@ -1,5 +1,5 @@
 -- Document 01's P cases: what the definitions give, and what document 01 says. A float is given by its bit pattern. Definitions only.
-use Rattle.std.specs.Prelude.{◌≡◌, false, List, [], ◌∷◌, ℕ, ◌/◌, ◌%◌, negsuc, get_or, Float}
+use Rattle.std.specs.Prelude.{◌≡◌, false, List, [], ◌∷◌, ℕ, ◌/◌, ◌%◌, negsuc, get_or, Float, Some}
 use Rattle.std.proofs.Math.Option.{none}
 use Rattle.std.specs.Float.{nan, fin, binary32}
 use Rattle.std.specs.Float.Ieee.{to_bits}
@@ -13,10 +13,10 @@ use Rattle.reads.specs.Reads.{start_of, outgoing_of}
 use Rattle.phase.specs.Edge.{unit_of}
 use Rattle.phase.specs.Map.{apply_of}
 use Rattle.wave.specs.declared.filters.Filtered.{Filtered}
-use Rattle.wave.specs.declared.slots.Setting.{Setting}
 use Rattle.wave.specs.Curve.{curve_of}
 use Rattle.wave.specs.Integral.{integral_of}
 use Rattle.wave.specs.Smooth.{distort_smooth}
+use Rattle.wave.specs.declared.slots.Setting.{Setting}
 use Rattle.wave.specs.Slot.{level_of}
 use Rattle.controls.specs.Controls.{amount_at, source_at}
 use Rattle.halfband.specs.Halfband.{View, cascade}
@@ -97,7 +97,7 @@ cases =
       said = 0x3e80_0000 ∷ 0x3f80_0000 ∷ [];
     }
     -- AM, amount 1, source -1, sample 1: 0
-    ∷ record { number = 12; given = pattern (level_of (number_of Am1) (Setting.Level 1f (bits 0xbf80_0000)) 1f) ∷ []; said = 0 ∷ [] }
+    ∷ record { number = 12; given = pattern (level_of (number_of Am1) (Some (Setting.Level 1f (bits 0xbf80_0000))) 1f) ∷ []; said = 0 ∷ [] }
     -- word 0xC0000000 is -0.25 signed, 0.75 as a unit
     ∷ record {
       number = 13;

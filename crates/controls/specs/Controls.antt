@@ -1,6 +1,6 @@
 -- What drives a lane's slots: amounts and sources (`Amounts` of mod.rs). A lane's inputs are lists in just the rows that line 7 of the
 -- table asks for. Definitions only.
-use Rattle.std.specs.Prelude.{ℕ, ◌+◌, ◌-◌, Bool, true, false, cond, List, ltb, eqb, length, get_or, Float}
+use Rattle.std.specs.Prelude.{ℕ, ◌+◌, ◌-◌, Bool, true, false, cond, List, ltb, eqb, length, get_or, Float, Option as RustOption, Some, None}
 use Rattle.std.proofs.Math.Option.{Option, some, none}
 use Rattle.std.specs.Float.{nan}
 use Rattle.floats.specs.F32.{◌⊕◌, ◌⊖◌, ◌⊗◌, ◌⊘◌, 0f, 100f, hundredth}
@@ -41,19 +41,19 @@ between_rows factor frames xs host sub = do
 unfoldable pub source_at : ℕ → ℕ → List Float → ℕ → ℕ → Float
 source_at factor frames xs host sub = when eqb factor 1 then get_or xs host nan else between_rows factor frames xs host sub
 
--- what a slot hears: of its own signal `last`, otherwise its source; 0 where it has none
-unfoldable pub heard_at : ℕ → ℕ → ℕ → Option (List Float) → Float → ℕ → ℕ → Float
-heard_at mode factor frames none last host sub = 0f
-heard_at mode factor frames (some xs) last host sub = when is_own mode then last else source_at factor frames xs host sub
-
 abbrev pub is_given : Option (List Float) → Bool
 is_given none = false
 is_given (some xs) = true
 
+-- what a slot hears, if it has a source: of its own signal `last`, otherwise the source
+unfoldable pub heard_at : ℕ → ℕ → ℕ → Option (List Float) → Float → ℕ → ℕ → RustOption Float
+heard_at mode factor frames none last host sub = None
+heard_at mode factor frames (some xs) last host sub = Some (when is_own mode then last else source_at factor frames xs host sub)
+
 -- a slot's amount and source
 unfoldable pub control_at : ℕ → ℕ → ℕ → Float → Option (List Float) → Option (List Float) → Float → ℕ → ℕ → Control
 control_at mode factor frames base modulation source last host sub =
-    record { amount = amount_at base modulation host; sourced = is_given source; source = heard_at mode factor frames source last host sub }
+    record { amount = amount_at base modulation host; source = heard_at mode factor frames source last host sub }
 
 -- what drives both slots of a lane
 pub record Controls : Type 0 where

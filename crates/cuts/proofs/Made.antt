@@ -14,7 +14,7 @@ use borrow.Author.Tests.{lt-ltb, le-ltb, eq-eqb, ne_eqb}
 use Rattle.grid.specs.Functions.{table, blocks}
 use Rattle.grid.specs.Cells.{col, blk}
 use Rattle.grid.proofs.Index.{same_row, same_lane, row_in}
-use Rattle.grid.proofs.TableLaws.{length_table, get_d-table, blocks_in, blocks_past}
+use Rattle.grid.proofs.TableLaws.{length_table, get_or-table, blocks_in, blocks_past}
 use Rattle.grid.proofs.CellLaws.{col_at, col_past, col_blk}
 use Rattle.shaper.specs.declared.settings.Settings.{Settings}
 use Rattle.shaper.specs.declared.settings.Range.{Range}
@@ -51,7 +51,7 @@ col_laid d n f size l hl past = fun_ext (λ r. go r (dec_lt (r * n + l) size))
         let low : (r * n + l) % n < n = mod-lt (r * n + l) (omega arith) in
         let row : (r * n + l) / n ≡ r = same_row _ r _ l n low hl (div-add-mod' (r * n + l) n) in
         let lane : (r * n + l) % n ≡ l = same_lane _ r _ l n low hl (div-add-mod' (r * n + l) n) in
-        col_at d n l _ r ∙ get_d-table size _ (r * n + l) d h ∙ rw (row, lane)
+        col_at d n l _ r ∙ get_or-table size _ (r * n + l) d h ∙ rw (row, lane)
     go r (no h) = col_past d n l _ r (rw length_table (omega arith)) ∙ sym (past r (omega arith))
 
 -- a row that is not in the buffer lies past the rows that the buffer holds

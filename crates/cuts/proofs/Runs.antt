@@ -9,7 +9,7 @@ use native.Mathlib.Omega.{arith}
 use lib.ListN.{get_or, length}
 use lib.Ieee.{Float, nan}
 use Rattle.grid.specs.Cells.{column}
-use Rattle.grid.proofs.CellLaws.{col_at, length_column, get_d-column}
+use Rattle.grid.proofs.CellLaws.{col_at, length_column, get_or-column}
 use Rattle.limits.proofs.LineLaws.{good_range, in_range}
 use Rattle.halfband.specs.Ranges.{total}
 use Rattle.shaper.specs.declared.settings.Range.{Range}
@@ -67,7 +67,7 @@ around_column c n lane rows w =
     }
   where
     at : (b : Buffers) (i : ℕ) → i < rows → get_or (buffer w b) (i * n + lane) nan ≡ get_or (column nan n lane rows (buffer w b)) i nan
-    at b i h = sym (get_d-column nan n lane rows (buffer w b) i h ∙ col_at nan n lane (buffer w b) i)
+    at b i h = sym (get_or-column nan n lane rows (buffer w b) i h ∙ col_at nan n lane (buffer w b) i)
 
 -- and of columns one after another
 around_both : (c : Call) (xs ys us vs : List Float) → Around c xs ys → Around c us vs → Around c (xs ++ us) (ys ++ vs)

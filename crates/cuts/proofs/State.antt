@@ -8,7 +8,7 @@ use lib.ListN.{get_or, drop}
 use lib.Ieee.{Float, nan}
 use Rattle.grid.specs.Functions.{table, blocks}
 use Rattle.grid.specs.Cells.{column, blk}
-use Rattle.grid.proofs.TableLaws.{get_d-table, same_table, blocks_in, blocks_past}
+use Rattle.grid.proofs.TableLaws.{get_or-table, same_table, blocks_in, blocks_past}
 use Rattle.grid.proofs.CellLaws.{col_blk}
 use Rattle.render.specs.declared.state.Voice.{Voice}
 use Rattle.share.specs.Share.{Buffers, Columns, columns_of, enters}
@@ -56,7 +56,7 @@ cells_listed v z ends c h = fun_ext (λ i. go i (dec_lt i 24))
     go i (yes l) =
         let row : (24 * c + i) / 24 ≡ c = omega arith in
         let at : (24 * c + i) % 24 ≡ i = omega arith in
-        blocks_in nan 24 _ c i l ∙ get_d-table 72 _ (24 * c + i) nan (omega arith) ∙ rw (row, at)
+        blocks_in nan 24 _ c i l ∙ get_or-table 72 _ (24 * c + i) nan (omega arith) ∙ rw (row, at)
     go i (no l) = blocks_past nan 24 _ c i (omega arith) ∙ sym (ends c i (omega arith))
 
 -- the cells of blocks 0 to 2 say the list

@@ -1,9 +1,10 @@
 // Patch files remade from draws: right records with up to two faults among them.
-ghost use Rattle.std.specs.Prelude.{◌≡◌, ◌+◌, ◌*◌, ◌≤◌, length, take};
-ghost use Rattle.std.proofs.lemmas.List.Edits.{sets};
-ghost use Rattle.files.specs.Format.{low_two};
+ghost use Rattle.std.specs.Prelude.{◌+◌, ◌<◌, ◌≤◌, length};
 
-use answers::random::next;
+use answers::random::Random;
+
+// The bytes of a record of kind 1.
+pub const RECORD: usize = 14;
 
 // The draws that a turn is made of, beside those of its file's records.
 #[derive(Clone, Copy)]
@@ -14,35 +15,83 @@ pub struct Draws {
     pub other: u32,
 }
 
-// Four draws after the state `s`; the last is the state after them.
-pub fn drawn(s: u32) -> Draws {
-    let how = next(s);
-    let place = next(how);
-    let value = next(place);
-    let other = next(value);
-    Draws {
-        how,
-        place,
-        value,
-        other,
+impl Draws {
+    pub fn new(random: &mut Random) -> Draws {
+        let [how, place, value, other] = random.draws::<4>();
+        Draws {
+            how,
+            place,
+            value,
+            other,
+        }
+    }
+
+    // How many right records the file begins with.
+    pub fn records(self) -> usize
+        ensures { result ≤ 8 }
+    {
+        (self.how % 9) as usize
+    }
+
+    // The file's bytes: those of its records, or a few less or more.
+    pub fn bytes(self) -> usize
+        ensures { result ≤ 127 }
+    {
+        let end = RECORD * self.records();
+        let by = (self.place / 0x100 % 16) as usize;
+        match self.how / 0x10_0000 % 16 {
+            0 => end.saturating_sub(by),
+            1 => end + by,
+            _ => end,
+        }
+    }
+
+    // Both faults of a turn.
+    pub fn put_faults(self, file: &mut [u8; 128]) {
+        let records = self.records();
+        if let Some(fault) = Fault::of(self.how / 0x1000_0000) {
+            fault.put(self.value, record_of(self.place, records), file);
+        }
+        if let Some(fault) = Fault::of(self.how / 0x100_0000 % 16) {
+            fault.put(
+                self.value / 0x100,
+                record_of(self.place / 0x1_0000, records),
+                file,
+            );
+        }
     }
 }
 
-// Two bytes of a number, the low one first.
-pub fn put_two(file: &mut [u8], at: usize, n: u32)
-    requires { at + 2 ≤ length file.old }
-    ensures { file.new ≡ sets file.old at (low_two n) }
-{
-    file[at] = (n % 256) as u8;
-    file[at + 1] = (n / 256 % 256) as u8;
+// A record of kind 1.
+#[derive(Clone, Copy, Default)]
+pub struct Fields {
+    pub slot: u8,
+    pub mode: u8,
+    pub hundredths: u16,
+    pub tenthousandths: u16,
+    pub serial: u32,
+}
+
+impl Fields {
+    // Its bytes, not by way of the crate that they try.
+    pub fn bytes(self) -> [u8; RECORD] {
+        let [h0, h1] = self.hundredths.to_le_bytes();
+        let [t0, t1] = self.tenthousandths.to_le_bytes();
+        let [s0, s1, s2, s3] = self.serial.to_le_bytes();
+        [
+            12, 0, 1, 0, self.slot, self.mode, h0, h1, t0, t1, s0, s1, s2, s3,
+        ]
+    }
 }
 
 // An amount or a character: often 0 or the highest.
-fn number_of(n: u32) -> u32 {
+fn number_of(n: u32) -> u16
+    requires { n < 65536 }
+{
     match n / 0x2000 {
         0 => 0,
         1 => 10000,
-        _ => n % 10001,
+        _ => (n % 10001) as u16,
     }
 }
 
@@ -58,86 +107,91 @@ fn serial_of(draw: u32) -> u32 {
     }
 }
 
-// A record of kind 1; `place` is its slot and 256 times its mode.
-pub fn put_record(
-    file: &mut [u8],
-    at: usize,
-    place: u32,
-    hundredths: u32,
-    tenthousandths: u32,
-    serial: u32,
-)
-    requires { at + 14 ≤ length file.old }
-{
-    put_two(file, at, 12);
-    put_two(file, at + 2, 1);
-    put_two(file, at + 4, place);
-    put_two(file, at + 6, hundredths);
-    put_two(file, at + 8, tenthousandths);
-    put_two(file, at + 10, serial % 0x1_0000);
-    put_two(file, at + 12, serial / 0x1_0000);
-}
-
-// A right record of three draws.
-fn put_drawn(file: &mut [u8], at: usize, fields: u32, numbers: u32, last: u32)
-    requires { at + 14 ≤ length file.old }
-{
-    put_record(
-        file,
-        at,
-        fields % 2 + 256 * (fields / 256 % 70),
-        number_of(numbers % 0x1_0000),
-        number_of(numbers / 0x1_0000),
-        serial_of(last),
-    );
-}
-
-// Right records after the state `s`, three draws each; gives the state after them.
-pub fn put_records(s: u32, records: usize, file: &mut [u8; 128]) -> u32
-    requires { records ≤ 8 }
-{
-    let mut s = s;
-    for i in 0..records {
-        let fields = next(s);
-        let numbers = next(fields);
-        s = next(numbers);
-        put_drawn(file, 14 * i, fields, numbers, s);
+// Right records, three draws each.
+pub fn put_records(random: &mut Random, records: usize, file: &mut [u8; 128]) {
+    for record in file.chunks_exact_mut(RECORD).take(records) {
+        let [place, numbers, last] = random.draws::<3>();
+        let fields = Fields {
+            slot: (place % 2) as u8,
+            mode: (place / 256 % 70) as u8,
+            hundredths: number_of(numbers % 0x1_0000),
+            tenthousandths: number_of(numbers / 0x1_0000),
+            serial: serial_of(last),
+        };
+        record.copy_from_slice(&fields.bytes());
     }
-    s
-}
-
-pub fn records_of(how: u32) -> usize
-    ensures { result ≤ 8 }
-{
-    (how % 9) as usize
 }
 
 // Where a fault's record starts: one of the file's; with none of them, at the start.
-fn place_of(place: u32, records: u32) -> usize
+fn record_of(place: u32, records: usize) -> usize
     requires { records ≤ 8 }
     ensures { result ≤ 98 }
 {
-    if records == 0 {
-        0
-    } else {
-        (14 * (place % records)) as usize
-    }
-}
-
-// Of a fault's two bytes: where they stand in the record, and what they say.
-fn offset_of(fault: u32) -> usize
-    ensures { result ≤ 8 }
-{
-    match fault {
+    match records {
         0 => 0,
-        1 => 2,
-        2..=3 => 4,
-        4 => 6,
-        _ => 8,
+        _ => RECORD * (place as usize % records),
     }
 }
 
-fn length_of(value: u32) -> u32 {
+// What a fault makes wrong.
+#[derive(Clone, Copy)]
+enum Fault {
+    Length,
+    Kind,
+    Slot,
+    Mode,
+    Amount,
+    Character,
+}
+
+impl Fault {
+    // From 6 on there is no fault.
+    fn of(draw: u32) -> Option<Fault> {
+        match draw {
+            0 => Some(Fault::Length),
+            1 => Some(Fault::Kind),
+            2 => Some(Fault::Slot),
+            3 => Some(Fault::Mode),
+            4 => Some(Fault::Amount),
+            5 => Some(Fault::Character),
+            _ => None,
+        }
+    }
+
+    // Where its two bytes stand in the record.
+    fn offset(self) -> usize
+        ensures { result ≤ 8 }
+    {
+        match self {
+            Fault::Length => 0,
+            Fault::Kind => 2,
+            Fault::Slot | Fault::Mode => 4,
+            Fault::Amount => 6,
+            Fault::Character => 8,
+        }
+    }
+
+    // What they say.
+    fn word(self, value: u32) -> u16 {
+        match self {
+            Fault::Length => length_of(value),
+            Fault::Kind => kind_of(value),
+            Fault::Slot => 2,
+            Fault::Mode => 70 * 256 + 1,
+            Fault::Amount | Fault::Character => 10001,
+        }
+    }
+
+    // In the record that starts at `at`.
+    fn put(self, value: u32, at: usize, file: &mut [u8])
+        requires { at + 10 ≤ length file.old }
+    {
+        let at = at + self.offset();
+        file[at..at + 2].copy_from_slice(&self.word(value).to_le_bytes());
+    }
+}
+
+fn length_of(value: u32) -> u16 {
     match value % 8 {
         0 => 0,
         1 => 1,
@@ -150,60 +204,11 @@ fn length_of(value: u32) -> u32 {
     }
 }
 
-fn kind_of(value: u32) -> u32 {
+fn kind_of(value: u32) -> u16 {
     match value % 4 {
         0 => 0,
         1 => 2,
         2 => 257,
         _ => 65535,
     }
-}
-
-fn word_of(fault: u32, value: u32) -> u32 {
-    match fault {
-        0 => length_of(value),
-        1 => kind_of(value),
-        2 => 2,
-        3 => 70 * 256 + 1,
-        _ => 10001,
-    }
-}
-
-// From 6 on there is no fault.
-fn put_fault(fault: u32, value: u32, at: usize, file: &mut [u8])
-    requires { at + 10 ≤ length file.old }
-{
-    if fault < 6 {
-        put_two(file, at + offset_of(fault), word_of(fault, value));
-    }
-}
-
-// Both faults of a turn.
-pub fn put_faults(d: Draws, file: &mut [u8; 128]) {
-    let records = d.how % 9;
-    let first = place_of(d.place, records);
-    let second = place_of(d.place / 0x1_0000, records);
-    put_fault(d.how / 0x1000_0000, d.value, first, file);
-    put_fault(d.how / 0x100_0000 % 16, d.value / 0x100, second, file);
-}
-
-// The file's bytes: those of its records, or a few less or more.
-pub fn bytes_of(d: Draws) -> usize
-    ensures { result ≤ 127 }
-{
-    let end = 14 * records_of(d.how);
-    let by = (d.place / 0x100 % 16) as usize;
-    match d.how / 0x10_0000 % 16 {
-        0 => if end < by { 0 } else { end - by },
-        1 => end + by,
-        _ => end,
-    }
-}
-
-// The first bytes.
-pub fn start(bytes: &[u8], end: usize) -> &[u8]
-    requires { end ≤ length bytes.now }
-    ensures { result.now ≡ take end bytes.now }
-{
-    &bytes[..end]
 }

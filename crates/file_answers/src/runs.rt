@@ -1,70 +1,58 @@
 // Runs of patch files: each turn makes a file from the seed, reads it, writes the patch and compares both
 // files, and a hash takes the answers. The bytes stay as the turns before it have left them.
-ghost use Rattle.std.specs.Prelude.{◌≤◌, length};
+ghost use Rattle.std.specs.Prelude.{◌≤◌};
 
-use crate::drawn::{Draws, bytes_of, drawn, put_faults, put_records, records_of, start};
-use answers::answer::pattern;
-use answers::random::{ModesRun, folded};
-use files::{
-    CardPatch, CardSlot, Patch, PatchSlot, Same, Written, for_card, read_patch, same_answer,
-    write_patch,
-};
+use crate::drawn::{Draws, put_records};
+use answers::hash::Hash;
+use answers::random::Random;
+use answers::runs::{ModesRun, hash_of};
+use files::{CardPatch, CardSlot, Patch, Same, Written, read_patch, same_patch, write_patch};
 
-fn folded_slot(h: u64, s: CardSlot) -> u64 {
-    let h = folded(h, s.mode);
-    let h = folded(h, s.hundredths);
-    let h = folded(h, s.tenthousandths);
-    let h = folded(h, pattern(s.amount));
-    folded(h, pattern(s.character))
+fn put_slot(hash: &mut Hash, s: CardSlot) {
+    hash.put(s.mode);
+    hash.put(s.hundredths);
+    hash.put(s.tenthousandths);
+    hash.put_float(s.amount);
+    hash.put_float(s.character);
 }
 
-fn folded_patch(h: u64, p: CardPatch) -> u64 {
-    let slot0 = p.slot0;
-    let slot1 = p.slot1;
-    let h = folded(folded(h, p.number), p.at);
-    folded_slot(folded_slot(h, slot0), slot1)
+fn put_patch(hash: &mut Hash, p: CardPatch) {
+    hash.put(p.number);
+    hash.put(p.at);
+    put_slot(hash, p.slot0);
+    put_slot(hash, p.slot1);
 }
 
-fn word(byte: u8) -> u32 {
-    byte as u32
-}
-
-fn folded_bytes(h: u64, bytes: &[u8]) -> u64 {
-    let mut h = h;
-    for i in 0..bytes.len() {
-        h = folded(h, word(bytes[i]));
-    }
-    h
-}
-
-fn folded_same(h: u64, s: Same) -> u64 {
-    folded(folded(h, s.number), s.same)
-}
-
-// A slot as a writer is given it: out of range with the fault `at`, or one of the next two.
-fn given_slot(fault: u32, at: u32, s: PatchSlot) -> PatchSlot
-    requires { at ≤ 3 }
-{
-    PatchSlot {
-        mode: if fault == at { 70 } else { s.mode },
-        hundredths: if fault == at + 1 { 10001 } else { s.hundredths },
-        tenthousandths: if fault == at + 2 {
-            10001
-        } else {
-            s.tenthousandths
-        },
+fn put_bytes(hash: &mut Hash, bytes: &[u8]) {
+    for byte in bytes {
+        hash.put(u32::from(*byte));
     }
 }
 
-fn given(fault: u32, p: Patch) -> Patch {
-    let slot0 = p.slot0;
-    let slot1 = p.slot1;
-    let slot0 = given_slot(fault, 0, slot0);
-    let slot1 = given_slot(fault, 3, slot1);
-    Patch {
-        slot0: slot0,
-        slot1: slot1,
+fn put_written(hash: &mut Hash, w: Written, buffer: &[u8]) {
+    hash.put(w.number);
+    hash.put(w.bytes);
+    put_bytes(hash, buffer);
+}
+
+fn put_same(hash: &mut Hash, s: Same) {
+    hash.put(s.number);
+    hash.put(s.same);
+}
+
+// A patch as a writer is given it: as it is, or with a field out of range.
+fn given(fault: u32, patch: Patch) -> Patch {
+    let mut given = patch;
+    match fault {
+        0 => given.slot0.mode = 70,
+        1 => given.slot0.hundredths = 10001,
+        2 => given.slot0.tenthousandths = 10001,
+        3 => given.slot1.mode = 70,
+        4 => given.slot1.hundredths = 10001,
+        5 => given.slot1.tenthousandths = 10001,
+        _ => {}
     }
+    given
 }
 
 // How many bytes of its buffer a writer is lent.
@@ -78,15 +66,6 @@ fn lent_of(d: Draws) -> usize
     }
 }
 
-// A patch written to the first `lent` bytes.
-fn written(p: Patch, buffer: &mut [u8], lent: usize) -> Written
-    requires { lent ≤ length buffer.old }
-{
-    let zero = 0usize;
-    let file = &mut buffer[zero..lent];
-    write_patch(p, file)
-}
-
 // One time of four a byte of what was written is replaced.
 fn change(other: u32, buffer: &mut [u8; 40]) {
     if other < 0x4000_0000 {
@@ -96,30 +75,25 @@ fn change(other: u32, buffer: &mut [u8; 40]) {
 }
 
 // The turn about a file, put to the hash.
-fn turn(d: Draws, h: u64, bytes: &[u8; 128], buffer: &mut [u8; 40]) -> u64 {
-    let r = read_patch(start(bytes, bytes_of(d)));
-    let patch = r.patch;
-    let h = folded_patch(h, for_card(r));
-    let lent = lent_of(d);
-    let w = written(given(d.value / 0x1000_0000, patch), buffer, lent);
-    let h = folded_bytes(folded(folded(h, w.number), w.bytes), buffer);
+fn turn(d: Draws, hash: &mut Hash, bytes: &[u8; 128], buffer: &mut [u8; 40]) {
+    let reading = read_patch(&bytes[..d.bytes()]);
+    put_patch(hash, CardPatch::from(reading));
+    let patch = given(d.value / 0x1000_0000, reading.unwrap_or_default());
+    let written = write_patch(patch, &mut buffer[..lent_of(d)]);
+    put_written(hash, Written::from(written), buffer);
     change(d.other, buffer);
-    let other = read_patch(start(buffer, 28));
-    let h = folded_same(h, same_answer(r, other));
-    folded_same(h, same_answer(other, r))
+    let other = read_patch(&buffer[..28]);
+    put_same(hash, Same::from(same_patch(reading, other)));
+    put_same(hash, Same::from(same_patch(other, reading)));
 }
 
 pub fn file_hash(run: ModesRun) -> u64 {
-    let count = run.count % 0x1_0000;
     let mut bytes = [0u8; 128];
     let mut buffer = [0u8; 40];
-    let mut s = run.seed;
-    let mut h: u64 = 0xcbf2_9ce4_8422_2325;
-    for _ in 0..count {
-        let d = drawn(s);
-        s = put_records(d.other, records_of(d.how), &mut bytes);
-        put_faults(d, &mut bytes);
-        h = turn(d, h, &bytes, &mut buffer);
-    }
-    h
+    hash_of(run.count, Random::new(run.seed), |random, hash| {
+        let d = Draws::new(random);
+        put_records(random, d.records(), &mut bytes);
+        d.put_faults(&mut bytes);
+        turn(d, hash, &bytes, &mut buffer);
+    })
 }

@@ -8,11 +8,10 @@ use borrow.Author.Tests.{le-ltb}
 use lib.Dec.{ltb, eqb}
 use Rattle.limits.specs.Lines.{first_of}
 use Rattle.floats.specs.F32.{0f}
-use Rattle.files.specs.declared.records.Entry.{Entry}
 use Rattle.files.specs.declared.reader.Slots.{Slots}
 use Rattle.files.specs.declared.reader.Held.{Held}
 use Rattle.files.specs.declared.answers.CardSlot.{CardSlot}
-use Rattle.files.specs.Format.{Valid, AllValid, none, more, AllBytes, bad_fields}
+use Rattle.files.specs.Format.{Entry, Valid, AllValid, none, more, AllBytes, bad_fields}
 use Rattle.files.specs.Patch.{card_amount, card_character}
 use Rattle.files.specs.Reader.{off_slot, empty_slots, held_as, later_of, superseded, held_of, reading_of}
 use Rattle.files.specs.Writer.{entry_of, writing_of}

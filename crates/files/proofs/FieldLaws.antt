@@ -6,9 +6,8 @@ use native.Mathlib.Omega.{arith}
 use borrow.Author.Tests.{ltb-false, le-ltb, eqb-true}
 use lib.Dec.{ltb}
 use Rattle.limits.specs.Lines.{bad_mode}
-use Rattle.limits.proofs.LineLaws.{or_false}
-use Rattle.files.specs.declared.records.Entry.{Entry}
-use Rattle.files.specs.Format.{known_kind, bad_fields}
+use Rattle.std.proofs.lemmas.Bool.{or_parts}
+use Rattle.files.specs.Format.{Entry, known_kind, bad_fields}
 
 -- no field is out of its range
 pub record InRange (e : Entry) : Type 0 where
@@ -19,9 +18,9 @@ pub record InRange (e : Entry) : Type 0 where
 
 pub good_fields : (e : Entry) → bad_fields e ≡ false → InRange e
 good_fields e good =
-    let p = or_false _ (ltb 10000 e.tenthousandths) good in
-    let q = or_false _ (ltb 10000 e.hundredths) p.0 in
-    let r = or_false (ltb 1 e.slot) (bad_mode e.mode) q.0 in
+    let p = or_parts _ (ltb 10000 e.tenthousandths) good in
+    let q = or_parts _ (ltb 10000 e.hundredths) p.0 in
+    let r = or_parts (ltb 1 e.slot) (bad_mode e.mode) q.0 in
     record {
       slot = ltb-false 1 e.slot r.0;
       mode = omega (arith, ltb-false 69 e.mode r.1);

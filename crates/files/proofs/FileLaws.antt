@@ -7,12 +7,11 @@ use native.Mathlib.Nat.{mod-eq_of_lt, add_assoc, add-zero}
 use native.Mathlib.Omega.{arith}
 use lib.ListN.{length, take, drop, length-append}
 use lib.Seq.{get_or-append-add, take_at}
-use Rattle.limits.proofs.LineLaws.{or_false}
-use Rattle.files.specs.declared.records.Entry.{Entry}
+use Rattle.std.proofs.lemmas.Bool.{or_parts}
 use Rattle.files.specs.declared.patches.Patch.{Patch}
 use Rattle.files.specs.declared.reader.Slots.{Slots}
-use Rattle.files.specs.declared.writer.Written.{Written}
-use Rattle.files.specs.Format.{limit, two_at, four_at, known_kind, fields_at, number_at, bad_fields, record_of, records_of, Valid, AllValid, none, more}
+use Rattle.files.specs.declared.answers.Written.{Written}
+use Rattle.files.specs.Format.{Entry, limit, two_at, four_at, known_kind, fields_at, number_at, bad_fields, record_of, records_of, Valid, AllValid, none, more}
 use Rattle.files.specs.Reader.{empty_slots, superseded, later_of, held_of, accepted_as, read_from, reading_of}
 use Rattle.files.specs.Writer.{entry_of, file_of, Wrote}
 use Rattle.files.proofs.FieldLaws.{good_fields, small_kind}
@@ -134,7 +133,7 @@ pub reads_back : (p : Patch) (before after : List ℕ) (r : Written) → Wrote p
     → reading_of (take 28 after) ≡ record { number = 0; at = 0; patch = p }
 unfolding file_of record_of
 reads_back p before after r w z =
-    let fields = or_false _ (bad_fields (entry_of 1 p.slot1)) (writing-passed p (length before) (sym w.number ∙ z)).0 in
+    let fields = or_parts _ (bad_fields (entry_of 1 p.slot1)) (writing-passed p (length before) (sym w.number ∙ z)).0 in
     ap (λ l. reading_of (take 28 l)) (w.written z)
     ∙ ap reading_of (take_at (file_of p) (drop 28 before) 28 refl)
     ∙ reads_written p fields.0 fields.1

@@ -1,6 +1,7 @@
 -- The laws of patch files.
 pub mod FieldLaws
 pub mod NumberLaws
+pub mod BodyLaws
 pub mod ReaderLaws
 pub mod WriterLaws
 pub mod FileLaws

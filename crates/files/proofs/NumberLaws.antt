@@ -56,3 +56,6 @@ module _ (bytes : List ℕ) (at : ℕ) where
             pub good : bad_fields (fields_at bytes at) ≡ false → 0 ≡ number_at bytes at
             unfolding number_at first_of
             good h = rw (le-ltb _ _ some, le-ltb _ _ all, le-ltb _ _ kinded, known, eq-eqb _ _ sized, h)
+
+-- a record whose length does not fit, and one whose kind is not known
+pub ruleset lengths = (length_cut, body_cut, too_small, unknown)

@@ -1,13 +1,13 @@
 -- The laws of reading: what a record that passes has, and a loop over the records. Assumes nothing.
 use mathlib.Core.Path.{◌≡◌, refl, sym, ◌∙◌}
-use mathlib.Core.Bool.{Bool, true, false, not, ◌||◌, ◌&&◌}
+use mathlib.Core.Bool.{true, false, not, ◌||◌, ◌&&◌}
 use mathlib.Core.List.{List}
 use Prim.Native.Nat.{ℕ, zero, suc, ◌+◌, ◌-◌, ◌≤◌, ◌<◌}
 use native.Mathlib.Omega.{arith}
 use borrow.Author.Tests.{ltb-false, eqb-true, not-false, lt-ltb, le-ltb, eq-eqb, ne_eqb}
 use lib.Dec.{ltb, eqb}
 use lib.ListN.{length}
-use Rattle.limits.proofs.LineLaws.{or_false}
+use Rattle.std.proofs.lemmas.Bool.{or_parts, false_from_ne_true}
 use Rattle.files.specs.declared.reader.Slots.{Slots}
 use Rattle.files.specs.Format.{limit, cut_short, wrong_length, known_kind, bad_fields, two_at, fields_at, number_at}
 use Rattle.files.specs.Reader.{empty_slots, superseded, accepted_as, refused_at, read_from, reading_of}
@@ -21,28 +21,19 @@ pub record Passed (bytes : List ℕ) (at : ℕ) : Type 0 where
   pub whole : at + 14 ≤ length bytes
   pub fields : bad_fields (fields_at bytes at) ≡ false
 
-and_false : (a b : Bool) → a ≡ true → (a && b) ≡ false → b ≡ false
-and_false true b h e = e
-and_false false b h e = absurd (let z : ◌≡◌ {A = ℕ} 0 1 = cc in omega arith)
-
--- a line that would give a number does not hold
-no_line : (t : Bool) → (t ≡ true → ⊥) → t ≡ false
-no_line true h = absurd (h refl)
-no_line false h = refl
-
 pub passed : (bytes : List ℕ) (at : ℕ) → number_at bytes at ≡ 0 → Passed bytes at
 passed bytes at e =
     let sound : (cut_short bytes at || wrong_length bytes at) ≡ false =
-    no_line _ (λ h. let n : 9 ≡ 0 = nine bytes at h ∙ e in absurd (omega arith)) in
+    false_from_ne_true _ (λ h. let n : 9 ≡ 0 = nine bytes at h ∙ e in absurd (omega arith)) in
     let kind : not (known_kind (two_at bytes (at + 2))) ≡ false =
-    no_line _ (λ h. let n : 10 ≡ 0 = ten bytes at sound h ∙ e in absurd (omega arith)) in
+    false_from_ne_true _ (λ h. let n : 10 ≡ 0 = ten bytes at sound h ∙ e in absurd (omega arith)) in
     let fields : bad_fields (fields_at bytes at) ≡ false =
-    no_line _ (λ h. let n : 11 ≡ 0 = eleven bytes at sound kind h ∙ e in absurd (omega arith)) in
-    let both = or_false (cut_short bytes at) (wrong_length bytes at) sound in
-    let cut = or_false (ltb (length bytes - at) 2) (ltb (length bytes - at) (2 + two_at bytes at)) both.0 in
-    let wrong = or_false (ltb (two_at bytes at) 2) (known_kind (two_at bytes (at + 2)) && not (eqb (two_at bytes at) 12)) both.1 in
+    false_from_ne_true _ (λ h. let n : 11 ≡ 0 = eleven bytes at sound kind h ∙ e in absurd (omega arith)) in
+    let both = or_parts (cut_short bytes at) (wrong_length bytes at) sound in
+    let cut = or_parts (ltb (length bytes - at) 2) (ltb (length bytes - at) (2 + two_at bytes at)) both.0 in
+    let wrong = or_parts (ltb (two_at bytes at) 2) (known_kind (two_at bytes (at + 2)) && not (eqb (two_at bytes at) 12)) both.1 in
     let is_known : known_kind (two_at bytes (at + 2)) ≡ true = not-false _ kind in
-    let is_sized : eqb (two_at bytes at) 12 ≡ true = not-false _ (and_false _ _ is_known wrong.1) in
+    let is_sized : eqb (two_at bytes at) 12 ≡ true = not-false _ (rw is_known at wrong.1) in
     let sized : two_at bytes at ≡ 12 = eqb-true _ _ is_sized in
     let left : 2 + two_at bytes at ≤ length bytes - at = ltb-false _ _ cut.1 in
     record {

@@ -7,13 +7,11 @@ use native.Mathlib.Nat.{mod-eq_of_lt, add_assoc, add-zero, add-suc}
 use native.Mathlib.Omega.{arith}
 use borrow.Author.Tests.{ltb-true, ltb-false, eqb-true, eqb-false}
 use lib.Dec.{ltb, eqb}
-use lib.ListN.{length, get_or, take, drop}
+use lib.ListN.{length, get_or, take, drop, drop_of_length-le}
 use lib.Seq.{drop-cons, take_at}
-use Rattle.files.specs.declared.records.Entry.{Entry}
 use Rattle.files.specs.declared.reader.Slots.{Slots}
-use Rattle.files.specs.declared.reader.Reading.{Reading}
-use Rattle.files.specs.Format.{limit, two_at, four_at, fields_at, number_at, record_of, records_of, Valid, AllValid, none, more, AllBytes}
-use Rattle.files.specs.Reader.{empty_slots, superseded, held_of, accepted_as, refused_at, read_from, reading_of}
+use Rattle.files.specs.Format.{Entry, limit, two_at, four_at, fields_at, number_at, record_of, records_of, Valid, AllValid, none, more, AllBytes}
+use Rattle.files.specs.Reader.{Reading, empty_slots, superseded, held_of, accepted_as, refused_at, read_from, reading_of}
 use Rattle.files.specs.Records.{Accepted, Refused}
 use Rattle.files.proofs.LatestLaws.{latest_0, latest_1}
 use Rattle.files.proofs.ReaderLaws.{Passed, passed, more_records, refuses, ends_here, over_limit, within_limit}
@@ -154,12 +152,6 @@ module _ (bytes : List ℕ) where
 
 -- ---- a file
 
-drop_past : (l : List ℕ) (n : ℕ) → length l ≤ n → drop n l ≡ []
-drop_past [] zero h = refl
-drop_past [] (suc n) h = refl
-drop_past (a ∷ l) zero h = absurd (omega arith)
-drop_past (a ∷ l) (suc n) h = drop_past l n (omega arith)
-
 pub length_records : (es : List Entry) → length (records_of es) ≡ 14 * length es
 unfolding records_of record_of
 length_records [] = refl
@@ -189,7 +181,7 @@ module _ (bytes : List ℕ) (small : AllBytes bytes) where
           record {
             entries = w.entries;
             valid = w.valid;
-            same = w.same ∙ rw (drop_past bytes _ h) (append-nil (records_of w.entries));
+            same = w.same ∙ rw (drop_of_length-le bytes h) (append-nil (records_of w.entries));
             few = few;
             reads = e;
             latest0 = latest_0 w.entries;

@@ -1,18 +1,14 @@
 -- "The same patch" is an equivalence: of patches, and of accepted files. Assumes nothing.
 use mathlib.Core.Path.{◌≡◌, refl, sym, ◌∙◌, ap}
-use mathlib.Core.Bool.{Bool, true, false, ◌&&◌}
-use Prim.Native.Nat.{ℕ}
+use mathlib.Core.Bool.{Bool, true, false}
 use native.Mathlib.Omega.{arith}
 use borrow.Author.Tests.{eqb-true, eq-eqb}
 use lib.Dec.{eqb}
+use Rattle.std.proofs.lemmas.Bool.{and_parts}
 use Rattle.files.specs.declared.patches.Patch.{Patch}
-use Rattle.files.specs.declared.reader.Reading.{Reading}
 use Rattle.files.specs.Patch.{same_patch}
+use Rattle.files.specs.Reader.{Reading}
 use Rattle.files.specs.Card.{same_of}
-
-and_true : (a b : Bool) → (a && b) ≡ true → (a ≡ true) × (b ≡ true)
-and_true true b e = (refl, e)
-and_true false b e = absurd (let z : ◌≡◌ {A = ℕ} 0 1 = cc in omega arith)
 
 -- both slots agree in mode and amount
 pub record Agree (p q : Patch) : Type 0 where
@@ -23,9 +19,9 @@ pub record Agree (p q : Patch) : Type 0 where
 
 pub same_agree : (p q : Patch) → same_patch p q ≡ true → Agree p q
 same_agree p q e =
-    let d = and_true _ (eqb p.slot1.hundredths q.slot1.hundredths) e in
-    let c = and_true _ (eqb p.slot1.mode q.slot1.mode) d.0 in
-    let b = and_true (eqb p.slot0.mode q.slot0.mode) (eqb p.slot0.hundredths q.slot0.hundredths) c.0 in
+    let d = and_parts _ (eqb p.slot1.hundredths q.slot1.hundredths) e in
+    let c = and_parts _ (eqb p.slot1.mode q.slot1.mode) d.0 in
+    let b = and_parts (eqb p.slot0.mode q.slot0.mode) (eqb p.slot0.hundredths q.slot0.hundredths) c.0 in
     record {
       mode0 = eqb-true _ _ b.0;
       amount0 = eqb-true _ _ b.1;

@@ -1,46 +1,24 @@
 -- The laws of writing: a record's bytes by its numbers, and both records. Assumes nothing.
 use mathlib.Core.Path.{◌≡◌, refl, sym, ◌∙◌, ap}
-use mathlib.Core.Bool.{Bool, true, false, ◌||◌}
+use mathlib.Core.Bool.{Bool, true, false, ◌||◌, cond}
 use mathlib.Core.List.{List, ◌++◌}
-use Prim.Native.Nat.{ℕ, suc, ◌+◌, ◌*◌, ◌/◌, ◌%◌, ◌≤◌, ◌<◌}
-use native.Mathlib.Nat.{mod-eq_of_lt}
+use Prim.Native.Nat.{ℕ, ◌≤◌, ◌<◌}
 use native.Mathlib.Omega.{arith}
 use borrow.Author.Tests.{lt-ltb, le-ltb, ltb-true, ltb-false, eqb-true, eqb-false}
 use lib.Dec.{ltb, eqb}
 use lib.ListN.{length, drop, length-append, length-drop}
-use lib.Seq.{sets, sets-eq}
+use Rattle.std.specs.Prelude.{Ok, Err, take}
+use Rattle.std.proofs.lemmas.List.{drop-drop}
+use Rattle.limits.specs.declared.refusal.Refusal.{Refusal}
 use Rattle.limits.specs.Lines.{first_of}
-use Rattle.files.specs.declared.patches.PatchSlot.{PatchSlot}
+use Rattle.limits.specs.Refusals.{line_of}
+use Rattle.limits.proofs.LineLaws.{some_line}
 use Rattle.files.specs.declared.patches.Patch.{Patch}
-use Rattle.files.specs.declared.records.Entry.{Entry}
-use Rattle.files.specs.declared.writer.Written.{Written}
-use Rattle.files.specs.Format.{low_two, low_four, record_of, bad_fields}
-use Rattle.files.specs.Writer.{entry_of, file_of, writing_of, Wrote}
-use Rattle.files.proofs.FieldLaws.{good_fields}
-
--- the highest of four bytes
-pub top_byte : (n : ℕ) → n / 65536 / 256 ≡ n / 16777216
-top_byte n = omega arith
-
--- a record's numbers
-pub put_record : (l : List ℕ) (at : ℕ) (e : Entry) → e.slot < 256 → e.mode < 256
-    → sets (sets (sets (sets (sets (sets l at (low_two 12)) (at + 2) (low_two e.kind)) (at + 4) (low_two (e.slot + 256 * e.mode))) (at + 6) (low_two e.hundredths)) (at + 8) (low_two e.tenthousandths)) (at + 10) (low_four e.serial)
-    ≡ sets l at (record_of e)
-unfolding record_of
-put_record l at e hs hm =
-    let e2 : at + 2 ≡ suc (suc at) = omega arith in
-    let e4 : at + 4 ≡ suc (suc (suc (suc at))) = omega arith in
-    let e6 : at + 6 ≡ suc (suc (suc (suc (suc (suc at))))) = omega arith in
-    let e8 : at + 8 ≡ suc (suc (suc (suc (suc (suc (suc (suc at))))))) = omega arith in
-    let e10 : at + 10 ≡ suc (suc (suc (suc (suc (suc (suc (suc (suc (suc at))))))))) = omega arith in
-    let low : (e.slot + 256 * e.mode) % 256 ≡ e.slot = omega arith in
-    let over : (e.slot + 256 * e.mode) / 256 ≡ e.mode = omega arith in
-    let high : (e.slot + 256 * e.mode) / 256 % 256 ≡ e.mode = rw over (mod-eq_of_lt hm) in
-    rw (e2, e4, e6, e8, e10, low, high)
-
--- a mode that passes is a byte
-pub small_mode : (number : ℕ) (s : PatchSlot) → bad_fields (entry_of number s) ≡ false → s.mode < 256
-small_mode number s e = omega (arith, (good_fields (entry_of number s) e).mode)
+use Rattle.files.specs.declared.records.Slot.{Slot}
+use Rattle.files.specs.declared.records.Record.{Record}
+use Rattle.files.specs.declared.answers.Written.{Written}
+use Rattle.files.specs.Format.{entry_as, record_of, bad_settings, bad_fields}
+use Rattle.files.specs.Writer.{entry_of, file_of, writing_of, written_as, Wrote}
 
 -- ---- the answers
 
@@ -66,27 +44,56 @@ module _ (p : Patch) where
       go false true ea eb = absurd (let n : 8 ≡ 0 = eight size ea (ltb-true _ _ eb) ∙ e in omega arith)
       go false false ea eb = (ea, ltb-false _ _ eb)
 
+-- what a slot's settings answer
+bad_slot : (b : Bool) (e : Refusal) → line_of e ≡ cond b 11 0 → (b ≡ true) × (line_of e ≡ 11)
+bad_slot true e h = (refl, h)
+bad_slot false e h = absurd (let p = some_line e in omega arith)
+
+good_slot : (b : Bool) → ◌≡◌ {A = ℕ} 0 (cond b 11 0) → b ≡ false
+good_slot true h = absurd (omega arith)
+good_slot false h = refl
+
 module _ (p : Patch) (l : List ℕ) where
-  pub bad_fields_lem : fields p ≡ true → Wrote p l l (record { number = 11; bytes = 0 })
-  bad_fields_lem e = record { number = eleven p (length l) e; bytes = refl; refused = λ h. refl; written = λ h. absurd (omega arith) }
+  fields_refused : fields p ≡ true → (e : Refusal) → line_of e ≡ 11 → Wrote p l l (written_as (Err e))
+  unfolding written_as
+  fields_refused b e h =
+      record {
+        number = h ∙ eleven p (length l) b;
+        bytes = rw h;
+        refused = λ ne. refl;
+        written = λ z. absurd (omega arith);
+      }
 
-  pub too_short : fields p ≡ false → length l < 28 → Wrote p l l (record { number = 8; bytes = 0 })
-  too_short e h = record { number = eight p (length l) e h; bytes = refl; refused = λ ne. refl; written = λ z. absurd (omega arith) }
+  -- slot 0's settings are out of range, or slot 1's
+  pub first_refused : (e : Refusal) → line_of e ≡ cond (bad_settings p.slot0) 11 0 → Wrote p l l (written_as (Err e))
+  first_refused e h = let b = bad_slot (bad_settings p.slot0) e h in fields_refused (rw b.0) e b.1
 
-  length_record : (number : ℕ) (s : PatchSlot) → length (record_of (entry_of number s)) ≡ 14
-  unfolding record_of
-  length_record number s = refl
+  pub second_refused : (e : Refusal) → ◌≡◌ {A = ℕ} 0 (cond (bad_settings p.slot0) 11 0) → line_of e ≡ cond (bad_settings p.slot1) 11 0
+      → Wrote p l l (written_as (Err e))
+  second_refused e g h =
+      let b = bad_slot (bad_settings p.slot1) e h in
+      let a = good_slot (bad_settings p.slot0) g in
+      fields_refused (rw (a, b.0)) e b.1
 
-  both : 28 ≤ length l
-      → sets (sets l 0 (record_of (entry_of 0 p.slot0))) 14 (record_of (entry_of 1 p.slot1)) ≡ file_of p ++ drop 28 l
-  unfolding file_of record_of
-  both h = sets-eq (record_of (entry_of 0 p.slot0) ++ record_of (entry_of 1 p.slot1)) l 0 h
+  module _ (first : ◌≡◌ {A = ℕ} 0 (cond (bad_settings p.slot0) 11 0)) (second : ◌≡◌ {A = ℕ} 0 (cond (bad_settings p.slot1) 11 0)) where
+    fields_good : fields p ≡ false
+    fields_good = let a = good_slot (bad_settings p.slot0) first in let b = good_slot (bad_settings p.slot1) second in rw (a, b)
 
-  pub wrote : {l' : List ℕ} → fields p ≡ false → 28 ≤ length l
-      → l' ≡ sets (sets l 0 (record_of (entry_of 0 p.slot0))) 14 (record_of (entry_of 1 p.slot1))
-      → Wrote p l l' (record { number = 0; bytes = 28 })
-  unfolding writing_of first_of
-  wrote e h same = record { number = rw (e, le-ltb _ _ h); bytes = refl; refused = λ ne. absurd (ne refl); written = λ z. same ∙ both h }
+    pub too_short : length l < 28 → Wrote p l l (written_as (Err Refusal.ShortWrite))
+    unfolding written_as line_of
+    too_short h = record { number = eight p (length l) fields_good h; bytes = refl; refused = λ ne. refl; written = λ z. absurd (omega arith) }
+
+    pub wrote : (l' : List ℕ) → 28 ≤ length l → l' ≡ file_of p ++ drop 28 l → Wrote p l l' (written_as (Ok 28))
+    unfolding written_as writing_of first_of
+    wrote l' h same = record { number = rw (fields_good, le-ltb _ _ h); bytes = refl; refused = λ ne. absurd (ne refl); written = λ z. same }
+
+-- both records in a buffer, and what lies past them
+pub both_written : (p : Patch) (r s : Record)
+    → (r.slot ≡ Slot.Zero) × (r.settings ≡ p.slot0) × (r.serial ≡ 1) → (s.slot ≡ Slot.One) × (s.settings ≡ p.slot1) × (s.serial ≡ 1)
+    → (a b l : List ℕ) → a ≡ record_of (entry_as r) → b ≡ record_of (entry_as s)
+    → take 14 (a ++ drop 14 l) ++ (b ++ drop 14 (drop 14 (a ++ drop 14 l))) ≡ file_of p ++ drop 28 l
+unfolding file_of record_of
+both_written p r s e d a b l u v = rw (u, v, e.0, e.1, e.2, d.0, d.1, d.2) (ap (λ (k : List ℕ). file_of p ++ k) (drop-drop 14 14 l))
 
 -- ---- nothing is left open
 

@@ -1,12 +1,14 @@
 -- What the card's calls on patch files answer. Definitions only.
-use Rattle.std.specs.Prelude.{cond, ℕ, eqb}
+use Rattle.std.specs.Prelude.{Bool, cond, ℕ, eqb, Result, Ok, Err}
+use Rattle.limits.specs.Refusals.{line_of}
+use Rattle.limits.specs.declared.refusal.Refusal.{Refusal}
 use Rattle.files.specs.declared.patches.PatchSlot.{PatchSlot}
 use Rattle.files.specs.declared.patches.Patch.{Patch}
-use Rattle.files.specs.declared.reader.Reading.{Reading}
 use Rattle.files.specs.declared.answers.CardSlot.{CardSlot}
 use Rattle.files.specs.declared.answers.CardPatch.{CardPatch}
 use Rattle.files.specs.declared.answers.Same.{Same}
 use Rattle.files.specs.Patch.{card_amount, card_character, same_patch}
+use Rattle.files.specs.Reader.{Reading}
 
 -- a slot in whole numbers and in floats
 unfoldable pub card_slot : PatchSlot → CardSlot
@@ -22,6 +24,11 @@ same_of a b =
     cond (eqb a.number 0)
     (cond (eqb b.number 0) (record { number = 0; same = cond (same_patch a.patch b.patch) 1 0 }) (record { number = b.number; same = 0 }))
     (record { number = a.number; same = 0 })
+
+-- what the code answers of two files
+unfoldable pub same_as : Result Bool Refusal → Same
+same_as (Ok same) = record { number = 0; same = cond same 1 0 }
+same_as (Err refusal) = record { number = line_of refusal; same = 0 }
 
 -- a patch by its numbers
 abbrev pub patch_from : ℕ → ℕ → ℕ → ℕ → ℕ → ℕ → Patch

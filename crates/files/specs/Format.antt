@@ -1,7 +1,11 @@
 -- The patch file's format: its numbers, a record, and a record's lines 9, 10 and 11. Definitions only.
-use Rattle.std.specs.Prelude.{◌≡◌, Bool, true, false, not, ◌||◌, ◌&&◌, List, [], ◌∷◌, ◌++◌, ℕ, ◌+◌, ◌-◌, ◌*◌, ◌/◌, ◌%◌, ◌<◌, ltb, eqb, length, get_or}
+use Rattle.std.specs.Prelude.{◌≡◌, Bool, true, false, not, ◌||◌, ◌&&◌, List, [], ◌∷◌, ◌++◌, ℕ, ◌+◌, ◌-◌, ◌*◌, ◌/◌, ◌%◌, ◌<◌, ltb, eqb, length, get_or, Result, MatchResult}
 use Rattle.limits.specs.Lines.{first_of, bad_mode}
-use Rattle.files.specs.declared.records.Entry.{Entry}
+use Rattle.limits.specs.declared.refusal.Refusal.{Refusal}
+use Rattle.files.specs.declared.patches.PatchSlot.{PatchSlot}
+use Rattle.files.specs.declared.records.Kind.{Kind}
+use Rattle.files.specs.declared.records.Slot.{Slot}
+use Rattle.files.specs.declared.records.Record.{Record}
 
 -- the most bytes of a file
 abbrev pub limit : ℕ
@@ -35,6 +39,15 @@ abbrev pub record_bytes : ℕ
 record_bytes = 14
 
 -- its kind and the fields of its body
+pub record Entry : Type 0 where
+  pub kind : ℕ
+  pub slot : ℕ
+  pub mode : ℕ
+  pub hundredths : ℕ
+  pub tenthousandths : ℕ
+  pub serial : ℕ
+
+-- as they stand in a file
 unfoldable pub fields_at : List ℕ → ℕ → Entry
 fields_at bytes at =
     record {
@@ -93,3 +106,51 @@ pub data AllValid : List Entry → Type 0 where
 -- every number is a byte
 abbrev pub AllBytes : List ℕ → Type 0
 AllBytes bytes = (i : ℕ) → get_or bytes i 0 < 256
+
+-- ---- what the code makes of a record
+
+-- the number of a kind, and of a slot
+abbrev pub kind_number : Kind → ℕ
+kind_number Kind.Slot = 1
+
+abbrev pub slot_number : Slot → ℕ
+slot_number Slot.Zero = 0
+slot_number Slot.One = 1
+
+-- the kind, or the slot, of this number; where there is none, the line's refusal
+abbrev pub IsKind : ℕ → Result Kind Refusal → Type 0
+IsKind n r = MatchResult r (λ kind. kind_number kind ≡ n) (λ refusal. (refusal ≡ Refusal.Kind) × (known_kind n ≡ false))
+
+abbrev pub IsSlot : ℕ → Result Slot Refusal → Type 0
+IsSlot n r = MatchResult r (λ slot. slot_number slot ≡ n) (λ refusal. (refusal ≡ Refusal.Field) × (ltb 1 n ≡ true))
+
+-- 11, of a slot's settings
+abbrev pub bad_settings : PatchSlot → Bool
+bad_settings s = bad_mode s.mode || ltb 10000 s.hundredths || ltb 10000 s.tenthousandths
+
+-- the fields of a body of kind 1, and its lines: 9, then 11
+abbrev pub fields_in : List ℕ → Entry
+fields_in body =
+    record {
+      kind = kind_number Kind.Slot;
+      slot = get_or body 0 0;
+      mode = get_or body 1 0;
+      hundredths = two_at body 2;
+      tenthousandths = two_at body 4;
+      serial = four_at body 6;
+    }
+
+abbrev pub body_number : List ℕ → ℕ
+body_number body = first_of ((not (eqb (length body) (record_length - 2)), 9) ∷ (bad_fields (fields_in body), 11) ∷ [])
+
+-- a record's kind and fields
+abbrev pub entry_as : Record → Entry
+entry_as r =
+    record {
+      kind = kind_number Kind.Slot;
+      slot = slot_number r.slot;
+      mode = r.settings.mode;
+      hundredths = r.settings.hundredths;
+      tenthousandths = r.settings.tenthousandths;
+      serial = r.serial;
+    }

@@ -3,6 +3,7 @@ use Rattle.std.specs.Prelude.{Bool, ◌&&◌, ℕ, eqb, pos, Float}
 use Rattle.std.specs.Float.{binary32}
 use Rattle.std.specs.Float.Ieee.{of_int}
 use Rattle.floats.specs.F32.{◌⊘◌, bits, 100f}
+use Rattle.files.specs.declared.patches.PatchSlot.{PatchSlot}
 use Rattle.files.specs.declared.patches.Patch.{Patch}
 
 abbrev 10000f : Float
@@ -14,6 +15,10 @@ card_amount hundredths = of_int binary32 (pos hundredths) ⊘ 100f
 
 unfoldable pub card_character : ℕ → Float
 card_character tenthousandths = of_int binary32 (pos tenthousandths) ⊘ 10000f
+
+-- two slots agree in mode and amount
+abbrev pub same_slot : PatchSlot → PatchSlot → Bool
+same_slot s t = eqb s.mode t.mode && eqb s.hundredths t.hundredths
 
 -- both slots agree in mode and amount
 abbrev pub same_patch : Patch → Patch → Bool

@@ -1,12 +1,12 @@
 -- What reading a patch file gives. Definitions only.
-use Rattle.std.specs.Prelude.{cond, List, [], ◌∷◌, ℕ, zero, suc, ◌+◌, ltb, eqb, length}
+use Rattle.std.specs.Prelude.{cond, List, [], ◌∷◌, ℕ, zero, suc, ◌+◌, ltb, eqb, length, Result, Ok, Err}
+use Rattle.limits.specs.Refusals.{line_of}
 use Rattle.files.specs.declared.patches.PatchSlot.{PatchSlot}
 use Rattle.files.specs.declared.patches.Patch.{Patch}
-use Rattle.files.specs.declared.records.Entry.{Entry}
 use Rattle.files.specs.declared.reader.Held.{Held}
 use Rattle.files.specs.declared.reader.Slots.{Slots}
-use Rattle.files.specs.declared.reader.Reading.{Reading}
-use Rattle.files.specs.Format.{limit, record_bytes, fields_at, number_at}
+use Rattle.files.specs.declared.reader.PatchError.{PatchError}
+use Rattle.files.specs.Format.{Entry, limit, record_bytes, fields_at, number_at}
 
 -- `Off` with zeros
 abbrev pub off_slot : PatchSlot
@@ -39,6 +39,12 @@ superseded s e =
 abbrev pub patch_of : Slots → Patch
 patch_of s = record { slot0 = s.held0.slot; slot1 = s.held1.slot }
 
+-- the number by which a file is turned away and where the record that caused it starts, with no patch, or 0 and its patch
+pub record Reading : Type 0 where
+  pub number : ℕ
+  pub at : ℕ
+  pub patch : Patch
+
 -- an accepted file, and one that is turned away for the record at `at`, with no patch
 abbrev pub accepted_as : Slots → Reading
 accepted_as s = record { number = 0; at = 0; patch = patch_of s }
@@ -63,3 +69,8 @@ reading_of bytes = cond (ltb limit (length bytes)) (refused_at 9 0) (read_from b
 unfoldable pub held_of : Slots → List Entry → Slots
 held_of s [] = s
 held_of s (e ∷ es) = held_of (superseded s e) es
+
+-- what the code answers
+unfoldable pub reading_as : Result Patch PatchError → Reading
+reading_as (Ok patch) = record { number = 0; at = 0; patch = patch }
+reading_as (Err error) = refused_at (line_of error.refusal) error.at

@@ -1,11 +1,12 @@
 -- What writing a patch gives. Definitions only.
-use Rattle.std.specs.Prelude.{◌≡◌, cond, ◌||◌, List, [], ◌∷◌, ◌++◌, ℕ, ltb, eqb, length, drop}
+use Rattle.std.specs.Prelude.{◌≡◌, cond, ◌||◌, List, [], ◌∷◌, ◌++◌, ℕ, ltb, eqb, length, drop, Result, Ok, Err}
 use Rattle.limits.specs.Lines.{first_of}
+use Rattle.limits.specs.Refusals.{line_of}
+use Rattle.limits.specs.declared.refusal.Refusal.{Refusal}
 use Rattle.files.specs.declared.patches.PatchSlot.{PatchSlot}
 use Rattle.files.specs.declared.patches.Patch.{Patch}
-use Rattle.files.specs.declared.records.Entry.{Entry}
-use Rattle.files.specs.declared.writer.Written.{Written}
-use Rattle.files.specs.Format.{record_of, bad_fields}
+use Rattle.files.specs.declared.answers.Written.{Written}
+use Rattle.files.specs.Format.{Entry, record_of, bad_fields}
 
 -- a slot's record is of kind 1 and has serial 1
 abbrev pub entry_of : ℕ → PatchSlot → Entry
@@ -30,3 +31,8 @@ pub record Wrote (p : Patch) (before after : List ℕ) (r : Written) : Type 0 wh
   pub bytes : r.bytes ≡ cond (eqb r.number 0) patch_bytes 0
   pub refused : (r.number ≡ 0 → ⊥) → after ≡ before
   pub written : r.number ≡ 0 → after ≡ file_of p ++ drop patch_bytes before
+
+-- what the code answers
+unfoldable pub written_as : Result ℕ Refusal → Written
+written_as (Ok bytes) = record { number = 0; bytes = bytes }
+written_as (Err refusal) = record { number = line_of refusal; bytes = 0 }

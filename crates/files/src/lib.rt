@@ -7,7 +7,7 @@ pub mod reader;
 pub mod records;
 pub mod writer;
 
-pub use answers::{CardPatch, CardSlot, Same, for_card, same_answer};
-pub use patches::{Patch, PatchSlot, card_amount, card_character, is_same};
-pub use reader::{Reading, read_patch};
-pub use writer::{Written, write_patch};
+pub use answers::{CardPatch, CardSlot, Same, Written, same_patch};
+pub use patches::{Patch, PatchSlot, card_amount, card_character};
+pub use reader::{PatchError, read_patch};
+pub use writer::write_patch;

@@ -1,24 +1,44 @@
 // A patch as files hold it, in whole numbers, and as the card takes it.
 ghost use Rattle.std.specs.Prelude.{◌≡◌};
-ghost use Rattle.files.specs.Patch.{card_amount, card_character, same_patch};
+ghost use Rattle.files.specs.Patch.{card_amount, card_character, same_slot, same_patch};
 
 use floats::nearest_u32;
 
 // A slot's mode, its amount in hundredths of a percent and its character in ten-thousandths.
-#[derive(Clone, Copy)]
+#[derive(Clone, Copy, Default)]
 pub struct PatchSlot {
     pub mode: u32,
     pub hundredths: u32,
     pub tenthousandths: u32,
 }
 
-#[derive(Clone, Copy)]
+impl PatchSlot {
+    // Whether both agree in mode and amount. Not `==`, which would ask the character too.
+    fn is_same(self, other: PatchSlot) -> bool
+        ensures { result ≡ same_slot self other }
+    {
+        (self.mode == other.mode) & (self.hundredths == other.hundredths)
+    }
+}
+
+// Two fields and not an array: the laws speak of each slot, and an array's would each ask its length.
+#[derive(Clone, Copy, Default)]
 pub struct Patch {
     pub slot0: PatchSlot,
     pub slot1: PatchSlot,
 }
 
+impl Patch {
+    // Whether both slots agree in mode and amount.
+    pub fn is_same(self, other: Patch) -> bool
+        ensures { result ≡ same_patch self other }
+    {
+        self.slot0.is_same(other.slot0) & self.slot1.is_same(other.slot1)
+    }
+}
+
 // The amount in percent.
+#[tactic(auto, unfolding(crate::specs::Patch::card_amount))]
 pub fn card_amount(hundredths: u32) -> f32
     ensures { result ≡ card_amount hundredths }
 {
@@ -26,22 +46,9 @@ pub fn card_amount(hundredths: u32) -> f32
 }
 
 // The character, 0 to 1.
+#[tactic(auto, unfolding(crate::specs::Patch::card_character))]
 pub fn card_character(tenthousandths: u32) -> f32
     ensures { result ≡ card_character tenthousandths }
 {
     nearest_u32(tenthousandths) / 10000.0
-}
-
-// Whether both slots agree in mode and amount.
-pub fn is_same(p: Patch, q: Patch) -> bool
-    ensures { result ≡ same_patch p q }
-{
-    let p0 = p.slot0;
-    let p1 = p.slot1;
-    let q0 = q.slot0;
-    let q1 = q.slot1;
-    (p0.mode == q0.mode)
-        & (p0.hundredths == q0.hundredths)
-        & (p1.mode == q1.mode)
-        & (p1.hundredths == q1.hundredths)
 }

@@ -1,145 +1,117 @@
 // Reading a patch file.
-ghost use Rattle.std.specs.Prelude.{◌≡◌};
-ghost use Rattle.files.specs.Reader.{empty_slots, later_of, superseded, accepted_as, refused_at, reading_of};
+ghost use Rattle.std.specs.Prelude.{◌≡◌, ◌≤◌, length, IfOk, IfErr};
+ghost use Rattle.limits.specs.Refusals.{line_of};
+ghost use Rattle.files.specs.Format.{entry_as, fields_at, number_at};
+ghost use Rattle.files.specs.Reader.{later_of, superseded, patch_of, reading_as, reading_of};
 
 use crate::patches::{Patch, PatchSlot};
-use crate::records::{Entry, RECORD, fields_at, number_at};
+use crate::records::{RECORD, Record, Slot};
+use limits::Refusal;
 
 // The most bytes that a file has.
 pub const LIMIT: usize = 65536;
 
-// What reading a file answers: the number by which it is turned away and where the record that caused it
-// starts, with no patch, or 0 and its patch.
-#[derive(Clone, Copy)]
-pub struct Reading {
-    pub number: u32,
+// Why a file is turned away, and where the record that caused it starts.
+#[derive(Clone, Copy, Debug, PartialEq, Eq)]
+pub struct PatchError {
+    pub refusal: Refusal,
     pub at: u32,
-    pub patch: Patch,
 }
 
-// What a slot holds after some records.
-#[derive(Clone, Copy)]
+impl From<PatchError> for Refusal {
+    ghost from_gives = { λ error refusal. refusal ≡ error.refusal };
+
+    fn from(error: PatchError) -> Refusal {
+        error.refusal
+    }
+}
+
+// What a slot holds after some records. With none it is off and has serial 0, which every record supersedes.
+#[derive(Clone, Copy, Default)]
 pub struct Held {
     pub slot: PatchSlot,
     pub serial: u32,
 }
 
-// Both slots.
-#[derive(Clone, Copy)]
+impl Held {
+    // The highest serial supersedes, and among equal ones the later record.
+    #[tactic(auto, unfolding(crate::specs::Reader::later_of))]
+    fn or_later(self, next: Record) -> Held
+        ensures { result ≡ later_of self (entry_as next) }
+    {
+        if next.serial < self.serial {
+            return self;
+        }
+        Held {
+            slot: next.settings,
+            serial: next.serial,
+        }
+    }
+}
+
+// Both slots, in two fields as in `Patch`.
+#[derive(Clone, Copy, Default)]
 pub struct Slots {
     pub held0: Held,
     pub held1: Held,
 }
 
-fn empty_slots() -> Slots
-    ensures { result ≡ empty_slots }
-{
-    let off = PatchSlot {
-        mode: 0,
-        hundredths: 0,
-        tenthousandths: 0,
-    };
-    let held = Held {
-        slot: off,
-        serial: 0,
-    };
-    Slots {
-        held0: held,
-        held1: held,
+impl Slots {
+    // With one record more.
+    #[tactic(auto, unfolding(crate::specs::Reader::superseded))]
+    fn with(self, next: Record) -> Slots
+        ensures { result ≡ superseded self (entry_as next) }
+    {
+        match next.slot {
+            Slot::Zero => Slots {
+                held0: self.held0.or_later(next),
+                ..self
+            },
+            Slot::One => Slots {
+                held1: self.held1.or_later(next),
+                ..self
+            },
+        }
+    }
+
+    fn patch(self) -> Patch
+        ensures { result ≡ patch_of self }
+    {
+        Patch {
+            slot0: self.held0.slot,
+            slot1: self.held1.slot,
+        }
     }
 }
 
-// The highest serial supersedes, and among equal ones the later record.
-fn later(h: Held, e: Entry) -> Held
-    ensures { result ≡ later_of h e }
+// The record that starts at `at`.
+#[tactic(auto, using(crate::proofs::BodyLaws::number_from, crate::proofs::BodyLaws::fields_from), unfolding(limits::specs::Refusals::number_of))]
+fn record_at(file: &[u8], at: usize) -> Result<Record, PatchError>
+    requires { (at ≤ length file.now) × (length file.now ≤ 65536) }
+    ensures ok { IfOk result (λ r. (number_at file.now at ≡ 0) × (entry_as r ≡ fields_at file.now at)) }
+    ensures err { IfErr result (λ e. (number_at file.now at ≡ line_of e.refusal) × (e.at ≡ at)) }
 {
-    if e.serial < h.serial {
-        return h;
-    }
-    let slot = PatchSlot {
-        mode: e.mode,
-        hundredths: e.hundredths,
-        tenthousandths: e.tenthousandths,
-    };
-    Held {
-        slot: slot,
-        serial: e.serial,
-    }
-}
-
-// With one record more.
-fn with_entry(s: Slots, e: Entry) -> Slots
-    ensures { result ≡ superseded s e }
-{
-    let held0 = s.held0;
-    let held1 = s.held1;
-    if e.slot == 0 {
-        let next = later(held0, e);
-        return Slots {
-            held0: next,
-            held1: held1,
-        };
-    }
-    let next = later(held1, e);
-    Slots {
-        held0: held0,
-        held1: next,
-    }
-}
-
-fn accepted(s: Slots) -> Reading
-    ensures { result ≡ accepted_as s }
-{
-    let held0 = s.held0;
-    let held1 = s.held1;
-    let slot0 = held0.slot;
-    let slot1 = held1.slot;
-    let patch = Patch {
-        slot0: slot0,
-        slot1: slot1,
-    };
-    Reading {
-        number: 0,
-        at: 0,
-        patch: patch,
-    }
-}
-
-fn turned_away(number: u32, at: u32) -> Reading
-    ensures { result ≡ refused_at number at }
-{
-    let off = PatchSlot {
-        mode: 0,
-        hundredths: 0,
-        tenthousandths: 0,
-    };
-    let patch = Patch {
-        slot0: off,
-        slot1: off,
-    };
-    Reading {
-        number: number,
-        at: at,
-        patch: patch,
-    }
+    Record::read(&file[at..]).map_err(|refusal| PatchError {
+        refusal,
+        at: at as u32,
+    })
 }
 
 // Reads a file's records in their order.
-pub fn read_patch(file: &[u8]) -> Reading
-    ensures { result ≡ reading_of file.now }
+#[tactic(auto, using(crate::proofs::ReaderLaws::onward_more, crate::proofs::ReaderLaws::over_limit), unfolding(crate::specs::Reader::reading_as, limits::specs::Refusals::line_of))]
+pub fn read_patch(file: &[u8]) -> Result<Patch, PatchError>
+    ensures { reading_as result ≡ reading_of file.now }
 {
     if LIMIT < file.len() {
-        return turned_away(9, 0);
+        return Err(PatchError {
+            refusal: Refusal::Length,
+            at: 0,
+        });
     }
-    let mut slots = empty_slots();
-    let mut at = 0;
-    while at < file.len() {
-        let number = number_at(file, at);
-        if number != 0 {
-            return turned_away(number, at as u32);
-        }
-        slots = with_entry(slots, fields_at(file, at));
-        at += RECORD;
+    let mut slots = Slots::default();
+    // By places and not by chunks: a refused record's place is answered, and its length may pass a chunk's end.
+    for at in (0..file.len()).step_by(RECORD) {
+        slots = slots.with(record_at(file, at)?);
     }
-    accepted(slots)
+    Ok(slots.patch())
 }

@@ -1,103 +1,142 @@
-// One record of a patch file.
-ghost use Rattle.std.specs.Prelude.{◌≡◌, ◌+◌, ◌≤◌, ◌<◌, length, get_or};
-ghost use Rattle.files.specs.Format.{two_at, four_at, known_kind, fields_at, bad_fields, number_at};
+// One record of a patch file: a two-byte length of what follows it, a two-byte kind, a body. Numbers are
+// written low byte first.
+ghost use Rattle.std.specs.Prelude.{◌≡◌, ◌≤◌, cond, IfOk};
 
-use limits::mode_bad;
+use crate::patches::PatchSlot;
+use limits::{Refusal, mode_bad};
 
-// A known kind's length, of what follows it, and the bytes of its record.
-pub const LENGTH: u32 = 12;
-
+// The bytes of a slot's record, and how many of them follow its length.
 pub const RECORD: usize = 14;
 
-// A record: its kind and the fields of its body.
+const LENGTH: u16 = 12;
+
+// What a record is about.
+#[derive(Clone, Copy, Debug, PartialEq, Eq)]
+pub enum Kind {
+    Slot = 1,
+}
+
+impl TryFrom<u16> for Kind {
+    ghost use Rattle.files.specs.Format.{IsKind};
+
+    type Error = Refusal;
+
+    ghost try_from_gives = { IsKind };
+
+    #[tactic(auto, unfolding(crate::specs::Format::known_kind))]
+    fn try_from(number: u16) -> Result<Kind, Refusal> {
+        match number {
+            1 => Ok(Kind::Slot),
+            _ => Err(Refusal::Kind),
+        }
+    }
+}
+
+// Which of a patch's slots.
+#[derive(Clone, Copy, Debug, PartialEq, Eq)]
+pub enum Slot {
+    Zero,
+    One,
+}
+
+impl TryFrom<u8> for Slot {
+    ghost use Rattle.files.specs.Format.{IsSlot};
+
+    type Error = Refusal;
+
+    ghost try_from_gives = { IsSlot };
+
+    fn try_from(number: u8) -> Result<Slot, Refusal> {
+        match number {
+            0 => Ok(Slot::Zero),
+            1 => Ok(Slot::One),
+            _ => Err(Refusal::Field),
+        }
+    }
+}
+
+// What a slot is set to, and the serial by which a later record supersedes it.
 #[derive(Clone, Copy)]
-pub struct Entry {
-    pub kind: u32,
-    pub slot: u32,
-    pub mode: u32,
-    pub hundredths: u32,
-    pub tenthousandths: u32,
+pub struct Record {
+    pub slot: Slot,
+    pub settings: PatchSlot,
     pub serial: u32,
+    ghost in_range: { (settings.mode ≤ 69) × (settings.hundredths ≤ 10000) × (settings.tenthousandths ≤ 10000) },
 }
 
-// A byte as a number.
-fn byte(file: &[u8], at: usize) -> u32
-    requires { at < length file.now }
-    ensures value { result ≡ get_or file.now at 0 }
-    ensures upper_bound { result < 256 }
-{
-    file[at] as u32
-}
+impl Record {
+    ghost use Rattle.limits.specs.Refusals.{number_of};
+    ghost use Rattle.files.specs.Format.{bad_settings, entry_as, record_of, fields_in, body_number, fields_at, number_at};
 
-// Two bytes as a number, the low one first.
-fn two(file: &[u8], at: usize) -> u32
-    requires { at + 2 ≤ length file.now }
-    ensures value { result ≡ two_at file.now at }
-    ensures upper_bound { result < 65536 }
-{
-    byte(file, at) + 256 * byte(file, at + 1)
-}
-
-// Four bytes.
-fn four(file: &[u8], at: usize) -> u32
-    requires { at + 4 ≤ length file.now }
-    ensures { result ≡ four_at file.now at }
-{
-    two(file, at) + 65536 * two(file, at + 2)
-}
-
-// Whether a kind is known.
-fn known_kind(kind: u32) -> bool
-    ensures { result ≡ known_kind kind }
-{
-    kind == 1
-}
-
-// A record of a known kind, which is whole.
-pub fn fields_at(file: &[u8], at: usize) -> Entry
-    requires { at + 14 ≤ length file.now }
-    ensures { result ≡ fields_at file.now at }
-{
-    Entry {
-        kind: two(file, at + 2),
-        slot: byte(file, at + 4),
-        mode: byte(file, at + 5),
-        hundredths: two(file, at + 6),
-        tenthousandths: two(file, at + 8),
-        serial: four(file, at + 10),
+    // A field out of its range is refused.
+    #[tactic(auto, unfolding(limits::specs::Refusals::number_of, limits::specs::Refusals::line_of))]
+    pub fn new(slot: Slot, settings: PatchSlot, serial: u32) -> Result<Record, Refusal>
+        ensures ok { IfOk result (λ r. (r.slot ≡ slot) × (r.settings ≡ settings) × (r.serial ≡ serial)) }
+        ensures number { number_of result ≡ cond (bad_settings settings) 11 0 }
+    {
+        let PatchSlot {
+            mode,
+            hundredths,
+            tenthousandths,
+        } = settings;
+        if mode_bad(mode) | (10000 < hundredths) | (10000 < tenthousandths) {
+            return Err(Refusal::Field);
+        }
+        Ok(Record {
+            slot,
+            settings,
+            serial,
+        })
     }
-}
 
-// Line 11: a field out of its range.
-pub fn fields_bad(e: Entry) -> bool
-    ensures { result ≡ bad_fields e }
-{
-    (1 < e.slot) | mode_bad(e.mode) | (10000 < e.hundredths) | (10000 < e.tenthousandths)
-}
+    // A record by its body.
+    #[tactic(auto, unfolding(limits::specs::Lines::first_of, limits::specs::Refusals::number_of, limits::specs::Refusals::line_of, crate::specs::Format::two_at, crate::specs::Format::four_at))]
+    fn parse(body: &[u8]) -> Result<Record, Refusal>
+        ensures number { number_of result ≡ body_number body.now }
+        ensures fields { IfOk result (λ r. entry_as r ≡ fields_in body.now) }
+    {
+        let [slot, mode, h0, h1, t0, t1, s0, s1, s2, s3] = body else {
+            return Err(Refusal::Length);
+        };
+        let settings = PatchSlot {
+            mode: u32::from(*mode),
+            hundredths: u32::from(u16::from_le_bytes([*h0, *h1])),
+            tenthousandths: u32::from(u16::from_le_bytes([*t0, *t1])),
+        };
+        let serial = u32::from_le_bytes([*s0, *s1, *s2, *s3]);
+        Record::new(Slot::try_from(*slot)?, settings, serial)
+    }
 
-// The number of the record at `at`: the first line that holds, and 0 where none does.
-pub fn number_at(file: &[u8], at: usize) -> u32
-    requires { at < length file.now }
-    ensures { result ≡ number_at file.now at }
-{
-    let left = file.len() - at;
-    if left < 2 {
-        return 9;
+    // The record that a file goes on with.
+    #[tactic(auto, using(crate::proofs::NumberLaws::lengths), unfolding(limits::specs::Refusals::number_of, limits::specs::Refusals::line_of, crate::specs::Format::two_at))]
+    pub fn read(rest: &[u8]) -> Result<Record, Refusal>
+        ensures number { number_of result ≡ number_at rest.now 0 }
+        ensures fields { IfOk result (λ r. entry_as r ≡ fields_at rest.now 0) }
+    {
+        let [low, high, rest @ ..] = rest else {
+            return Err(Refusal::Length);
+        };
+        let length = u16::from_le_bytes([*low, *high]);
+        let Some([low, high, body @ ..]) = rest.get(..usize::from(length)) else {
+            return Err(Refusal::Length);
+        };
+        match Kind::try_from(u16::from_le_bytes([*low, *high]))? {
+            Kind::Slot => Record::parse(body),
+        }
     }
-    let length = two(file, at);
-    if left < 2 + length as usize {
-        return 9;
+
+    // Its bytes.
+    #[tactic(auto, unfolding(crate::specs::Format::record_of))]
+    pub fn bytes(self) -> [u8; RECORD]
+        ensures { result ≡ record_of (entry_as self) }
+    {
+        let [l0, l1] = LENGTH.to_le_bytes();
+        let [k0, k1] = (Kind::Slot as u16).to_le_bytes();
+        let slot = self.slot as u8;
+        let mode = self.settings.mode as u8;
+        let [h0, h1] = (self.settings.hundredths as u16).to_le_bytes();
+        let [t0, t1] = (self.settings.tenthousandths as u16).to_le_bytes();
+        let [s0, s1, s2, s3] = self.serial.to_le_bytes();
+        [l0, l1, k0, k1, slot, mode, h0, h1, t0, t1, s0, s1, s2, s3]
     }
-    if length < 2 {
-        return 9;
-    }
-    let kind = two(file, at + 2);
-    if !known_kind(kind) {
-        return 10;
-    }
-    if length != LENGTH {
-        return 9;
-    }
-    let entry = fields_at(file, at);
-    if fields_bad(entry) { 11 } else { 0 }
 }

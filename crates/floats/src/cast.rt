@@ -1,17 +1,11 @@
 // Casts between floats and integers, as Rust's `as` makes them: a float's saturate, and NaN gives 0;
 // an integer gives the nearest float, ties to even. They go by the bit pattern; where they choose,
 // both values are at hand, so that the compiler need not branch, but on what is out of range.
-ghost use Rattle.std.specs.Prelude.{◌≡◌, ◌*◌, ◌/◌, ◌^◌, ◌<◌, min, pos};
+ghost use Rattle.std.specs.Prelude.{◌≡◌, ◌*◌, ◌/◌, ◌^◌, ◌<◌, pos};
 ghost use Rattle.std.specs.Float.{binary32};
 ghost use Rattle.std.specs.Float.Ieee.{of_int, to_unsigned};
 ghost use Rattle.floats.specs.Casts.{cast_word, as_signed};
 ghost use Rattle.floats.specs.Pattern.{significand_of, exponent_of};
-
-fn least(a: u32, b: u32) -> u32
-    ensures { result ≡ min a b }
-{
-    if a < b { a } else { b }
-}
 
 // The whole part of the positive f32 below 2^64 with the pattern b. With the significand at the top
 // of a u64, an exponent field of 190 takes it down by no place, one of 127, for 1 to 2, by 63. Below
@@ -33,7 +27,7 @@ fn short_part(b: u32) -> u64
     ensures { result ≡ significand_of b * 2 ^ exponent_of b / 2 ^ 149 }
 {
     let digits = (b % 0x80_0000 + 0x80_0000) as u64;
-    digits * 0x80_0000_0000 >> least(63, 189 - b / 0x80_0000)
+    digits * 0x80_0000_0000 >> u32::min(63, 189 - b / 0x80_0000)
 }
 
 // `x as i32 as u32`. 0x4f00_0000 is the pattern of 2^31.
@@ -68,7 +62,7 @@ pub fn cast_usize(x: f32) -> usize
     }
     let b = f32::to_bits(x);
     let c = b * (1 - b / 0x8000_0000);
-    let size = whole_part(least(c, 0x5f7f_ffff));
+    let size = whole_part(c.min(0x5f7f_ffff));
     if c < 0x5f80_0000 {
         size as usize
     } else {

@@ -10,7 +10,7 @@ use crate::pattern::{exponent, significand};
 
 // E(0) to E(256). An indexed constant is stored anew in each call, so whoever calls `exp2` often
 // keeps a copy and lends it.
-pub const POWERS: [u32; 257] = [
+pub static POWERS: [u32; 257] = [
     8388608, 8411351, 8434157, 8457024, 8479953, 8502945, 8525999, 8549115, 8572294, 8595536,
     8618841, 8642209, 8665640, 8689135, 8712694, 8736316, 8760003, 8783754, 8807569, 8831449,
     8855393, 8879402, 8903477, 8927617, 8951822, 8976093, 9000430, 9024832, 9049301, 9073836,
@@ -42,11 +42,11 @@ pub const POWERS: [u32; 257] = [
 ];
 
 // The table, to keep and to lend. Its contract holds the constant to the definition, and to the rule.
-pub fn power_table() -> [u32; 257]
-    ensures value { result ≡ entries }
-    ensures rule { (k : ℕ) → k < 257 → Entry k (get_or result k 0) }
+pub fn power_table() -> &'static [u32; 257]
+    ensures value { result.now ≡ entries }
+    ensures rule { (k : ℕ) → k < 257 → Entry k (get_or result.now k 0) }
 {
-    POWERS
+    &POWERS
 }
 
 // How far the digits go down: from place j to 2^-16. They are below 2^24, so 25 is as good as more.
@@ -77,21 +77,20 @@ fn steps(b: u32) -> u32
 }
 
 // The pattern of 2^(n / 65,536 - 128), by the table.
-fn power_bits(powers: &[u32; 257], n: u32) -> u32
-    requires fact_1 { powers.now ≡ entries }
-    requires fact_2 { (131072 ≤ n) × (n < 16777216) }
+fn power_bits(n: u32) -> u32
+    requires { (131072 ≤ n) × (n < 16777216) }
     ensures { (result < 2139095040) × (of_bits binary32 result ≡ pow_at n) }
 {
     let j = (n / 256 % 256) as usize;
     let r = n % 256;
+    let powers = power_table();
     let a = powers[j];
     let b = powers[j + 1];
     let m = ((a as u64) * ((256 - r) as u64) + (b as u64) * (r as u64)) / 256;
     (n / 65536 - 2) * 8388608 + (m as u32)
 }
 
-pub fn exp2(powers: &[u32; 257], x: f32) -> f32
-    requires { powers.now ≡ entries }
+pub fn exp2(x: f32) -> f32
     ensures { result ≡ exp2_of x }
 {
     if x != x {
@@ -103,5 +102,5 @@ pub fn exp2(powers: &[u32; 257], x: f32) -> f32
     if x < -126.0 {
         return 0.0;
     }
-    f32::from_bits(power_bits(powers, steps(f32::to_bits(x))))
+    f32::from_bits(power_bits(steps(f32::to_bits(x))))
 }

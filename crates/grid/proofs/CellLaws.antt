@@ -10,7 +10,7 @@ use Rattle.grid.specs.Functions.{upd, blocks}
 use Rattle.grid.specs.Cells.{col, column, blk}
 use Rattle.grid.proofs.Index.{same_row, same_lane}
 use Rattle.grid.proofs.FunctionLaws.{upd_by}
-use Rattle.grid.proofs.TableLaws.{length_table, get_d-table, blocks_in, blocks_at, blocks_upd, blocks_inj}
+use Rattle.grid.proofs.TableLaws.{length_table, get_or-table, blocks_in, blocks_at, blocks_upd, blocks_inj}
 
 module _ {A : Type 0} (d : A) where
   -- ---- a column
@@ -51,9 +51,9 @@ module _ {A : Type 0} (d : A) where
   length_column n l k xs = length_table k _
 
   -- its number r is the column's in row r
-  pub get_d-column : (n l k : ℕ) (xs : List A) (r : ℕ) → r < k → get_or (column d n l k xs) r d ≡ col d n l xs r
+  pub get_or-column : (n l k : ℕ) (xs : List A) (r : ℕ) → r < k → get_or (column d n l k xs) r d ≡ col d n l xs r
   unfolding column
-  get_d-column n l k xs r h = get_d-table k _ r d h
+  get_or-column n l k xs r h = get_or-table k _ r d h
 
   -- ---- a column in blocks of h rows
 

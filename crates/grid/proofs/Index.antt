@@ -1,8 +1,12 @@
 -- Where cells lie: row r of lane l, of n lanes, at r * n + l. No two cells lie at one place. Assumes nothing.
 use mathlib.Core.Path.{◌≡◌, ap}
 use Prim.Native.Nat.{ℕ, ◌+◌, ◌*◌, ◌≤◌, ◌<◌}
-use native.Mathlib.Nat.{mul-le-mul_right, suc-mul}
+use native.Mathlib.Nat.{mul-le-mul, mul-le-mul_right, le_of_lt, suc-mul}
 use native.Mathlib.Omega.{arith}
+
+-- and a place is a number of 32 bits
+pub small_place : (row n : ℕ) → row < 65536 → n ≤ 64 → row * n ≤ 4194304
+small_place row n h hn = mul-le-mul (le_of_lt h) hn
 
 -- a row below `rows` ends within rows × n cells
 pub whole_row : (r rows n : ℕ) → r < rows → r * n + n ≤ rows * n

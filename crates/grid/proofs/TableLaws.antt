@@ -18,11 +18,11 @@ module _ {A : Type 0} where
   length_table zero f = refl
   length_table (suc k) f = ap suc (length_table k (λ i. f (suc i)))
 
-  pub get_d-table : (k : ℕ) (f : ℕ → A) (i : ℕ) (d : A) → i < k → get_or (table k f) i d ≡ f i
+  pub get_or-table : (k : ℕ) (f : ℕ → A) (i : ℕ) (d : A) → i < k → get_or (table k f) i d ≡ f i
   unfolding table
-  get_d-table zero f i d h = absurd (omega arith)
-  get_d-table (suc k) f zero d h = refl
-  get_d-table (suc k) f (suc i) d h = get_d-table k (λ j. f (suc j)) i d (omega arith)
+  get_or-table zero f i d h = absurd (omega arith)
+  get_or-table (suc k) f zero d h = refl
+  get_or-table (suc k) f (suc i) d h = get_or-table k (λ j. f (suc j)) i d (omega arith)
 
   -- functions that agree below k have one table
   pub same_table : (k : ℕ) (f g : ℕ → A) → ((i : ℕ) → i < k → f i ≡ g i) → table k f ≡ table k g

@@ -7,10 +7,14 @@ use native.Mathlib.Omega.{arith}
 use lib.ListN.{length}
 use lib.Ieee.{Float, nan}
 use borrow.Author.Tests.{ne_eqb}
+use Rattle.std.specs.Prelude.{Result, Ok, Err}
+use Rattle.std.specs.Result.{IsErrAnd}
 use Rattle.grid.proofs.CellLaws.{same_columns, same_blocks}
 use Rattle.grid.proofs.EachLaws.{each_unique}
 use Rattle.limits.specs.declared.answers.Answer.{Answer}
-use Rattle.limits.proofs.LineLaws.{good_lanes}
+use Rattle.limits.specs.declared.refusal.Refusal.{Refusal}
+use Rattle.limits.specs.Refusals.{line_of, number_of, answer_of}
+use Rattle.limits.proofs.LineLaws.{good_lanes, some_number}
 use Rattle.halfband.specs.declared.design.Designs.{Designs}
 use Rattle.halfband.specs.Halfband.{View, view, views}
 use Rattle.halfband.specs.Floats.{floats}
@@ -22,14 +26,16 @@ module _ (ds : Designs) (coefs factor n active f : ℕ) (buf st : List Float) wh
   Number = call_number ds coefs factor n active f (length buf) (length st)
 
   -- a call that is turned down
-  pub turned_down_lem : (number : ℕ) → number ≡ Number → (number ≡ 0 → ⊥)
-      → Decimated ds coefs factor n active f buf st buf st (record { number = number; frames = 0 })
-  turned_down_lem number e ne =
+  pub turned_down_lem : (r : Result ℕ Refusal) (e : Refusal) → IsErrAnd r (λ x. x ≡ e) → number_of {A = Unit {0}} (Err e) ≡ Number
+      → Decimated ds coefs factor n active f buf st buf st (answer_of r)
+  unfolding answer_of number_of
+  turned_down_lem (Ok x) e handed is = absurd handed
+  turned_down_lem (Err x) e handed is =
       record {
-        number = e;
-        frames = rw (ne_eqb number 0 ne);
+        number = ap line_of handed ∙ is;
+        frames = rw (handed, ne_eqb (line_of e) 0 (some_number e));
         refused = λ h. (refl, refl);
-        lanes = λ z. absurd (ne z);
+        lanes = λ z. absurd (some_number e (sym (ap line_of handed) ∙ z));
         lengths = (refl, refl);
       }
 

@@ -1,6 +1,4 @@
 -- The laws of the decimator, for the proofs of this crate and of those above it.
-pub mod FillLaws
-pub mod DesignLaws
 pub mod LocalLaws
 pub mod ChainLaws
 pub mod StageLaws

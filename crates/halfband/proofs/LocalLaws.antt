@@ -2,19 +2,18 @@
 use mathlib.Core.Path.{◌≡◌, refl, sym, ◌∙◌, ap}
 use mathlib.Core.List.{List}
 use Prim.Native.Nat.{ℕ, ◌+◌, ◌*◌, ◌<◌}
+use native.Mathlib.Decide.{ℕ_discrete}
 use native.Mathlib.Omega.{arith}
 use lib.ListN.{length, get_or, set, length-set}
 use lib.Seq.{get_or-set_same, get_or-set_other}
 use lib.Ieee.{Float, nan}
 use Rattle.grid.specs.Functions.{upd}
-use Rattle.grid.specs.Cells.{blk}
 use Rattle.grid.proofs.Index.{row_in}
 use Rattle.grid.proofs.FunctionLaws.{upd_by, upd_same, upd_upd, upd_self, upto_none, upto_more}
 use Rattle.grid.proofs.CellLaws.{blk_set, blk_set_other}
 use Rattle.grid.proofs.EachLaws.{each_one, one_lane, one_others}
 use Rattle.halfband.specs.Floats.{floats}
-use Rattle.halfband.specs.Promises.{cells_of, Stepped, Room, Loaded, Stored, blocks_of}
-use Rattle.halfband.proofs.FillLaws.{Filled}
+use Rattle.halfband.specs.Promises.{cells_of, Stepped, Room, Stored, blocks_of}
 
 pub cells_set : (z : List Float) (i : ℕ) (v : Float) → i < length z → cells_of (set z i v) ≡ upd (cells_of z) i v
 unfolding cells_of
@@ -43,9 +42,14 @@ module _ (c input : Float) (i : ℕ) (z : List Float) (size : length z ≡ 24) (
 pub cell_in : (size b i n l : ℕ) → Room size b n l → i < 24 → (24 * b + i) * n + l < size
 cell_in size b i n l room h = omega (arith, row_in (24 * b + i) 72 l n (omega arith) room.lane)
 
-pub loaded : (st : List Float) (b n l j k : ℕ) (z : List Float) → j ≡ k → Filled 24 (blk nan 24 n l st b) j z → Loaded st b n l k z
-unfolding cells_of
-loaded st b n l j k z e was = rw (← e) (record { size = was.whole; cells = was.done })
+-- one more of an array's elements
+pub filled_more : (f : ℕ → Float) (k : ℕ) (xs : List Float) (v : Float) → k < length xs → v ≡ f k → ((i : ℕ) → i < k → get_or xs i nan ≡ f i)
+    → (i : ℕ) → i < k + 1 → get_or (set xs k v) i nan ≡ f i
+filled_more f k xs v h e was i hi = go (ℕ_discrete i k)
+  where
+    go : Dec (i ≡ k) → get_or (set xs k v) i nan ≡ f i
+    go (yes p) = rw p (get_or-set_same xs k v nan h ∙ e)
+    go (no ne) = get_or-set_other xs k i v nan ne ∙ was i (omega arith)
 
 module _ (b n l : ℕ) (z st : List Float) where
   pub stored_none : Stored b n l 0 z st st

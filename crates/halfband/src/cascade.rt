@@ -2,17 +2,20 @@
 ghost use Rattle.std.specs.Prelude.{◌≡◌, ◌+◌, ◌<◌, ◌≤◌, length};
 ghost use Rattle.grid.specs.Lanes.{Each};
 ghost use Rattle.limits.specs.Lengths.{coefs_length};
+ghost use Rattle.limits.specs.Refusals.{answer_of};
 ghost use Rattle.halfband.specs.Halfband.{views, stages_of};
 ghost use Rattle.halfband.specs.Floats.{floats};
 ghost use Rattle.halfband.specs.Promises.{Taken};
 ghost use Rattle.halfband.specs.Decimated.{lane_part, Decimated};
 
 use crate::design::Designs;
-use crate::refusal::refused;
+use crate::refusal::{CallNumbers, check};
 use crate::stage::stage;
-use limits::{Answer, COEFS_LENGTH};
+use grid::Lane;
+use limits::{COEFS_LENGTH, Refusal};
 
 // How many stages a factor takes.
+#[tactic(auto, unfolding(crate::specs::Halfband::stages_of))]
 pub fn stages_of(factor: u32) -> usize
     ensures { result ≡ stages_of factor }
 {
@@ -26,28 +29,22 @@ pub fn stages_of(factor: u32) -> usize
 
 // One lane's whole share of a call: the stages, the one farthest from the output first.
 pub fn decimate_lane(
-    designs: Designs,
+    designs: &Designs,
     stages: usize,
     frames: usize,
-    n: usize,
-    lane: usize,
+    lane: Lane,
     buffer: &mut [f32],
     state: &mut [f32],
 )
-    requires taken { Taken designs stages frames n (length buffer.old) (length state.old) }
-    requires lane_lt_n { lane < n }
-    ensures { Each n lane (lane + 1) (λ _. lane_part designs stages frames)
-        (views floats n buffer.old state.old) (views floats n buffer.new state.new) }
+    requires { Taken designs.now stages frames lane.lanes (length buffer.old) (length state.old) }
+    ensures { Each lane.lanes lane.index (lane.index + 1) (λ _. lane_part designs.now stages frames)
+        (views floats lane.lanes buffer.old state.old) (views floats lane.lanes buffer.new state.new) }
 {
-    let mut from_last = stages;
-    while 0 < from_last {
-        from_last -= 1;
-        let design = designs.stages[from_last];
+    for from_last in (0..stages).rev() {
         stage(
-            design,
+            &designs.stages[from_last],
             from_last,
             frames << from_last,
-            n,
             lane,
             buffer,
             state,
@@ -55,72 +52,56 @@ pub fn decimate_lane(
     }
 }
 
-// The first `active` lanes.
+// The first `active` of `lanes` lanes.
 fn decimate_lanes(
-    designs: Designs,
+    designs: &Designs,
     stages: usize,
     frames: usize,
-    n: usize,
+    lanes: usize,
     active: usize,
     buffer: &mut [f32],
     state: &mut [f32],
 )
-    requires taken { Taken designs stages frames n (length buffer.old) (length state.old) }
-    requires active_le_n { active ≤ n }
-    ensures { Each n 0 active (λ _. lane_part designs stages frames)
-        (views floats n buffer.old state.old) (views floats n buffer.new state.new) }
+    requires taken { Taken designs.now stages frames lanes (length buffer.old) (length state.old) }
+    requires active_le_lanes { active ≤ lanes }
+    ensures { Each lanes 0 active (λ _. lane_part designs.now stages frames)
+        (views floats lanes buffer.old state.old) (views floats lanes buffer.new state.new) }
 {
-    for lane in 0..active {
-        decimate_lane(designs, stages, frames, n, lane, buffer, state);
+    for index in 0..active {
+        decimate_lane(
+            designs,
+            stages,
+            frames,
+            Lane { lanes, index },
+            buffer,
+            state,
+        );
     }
 }
 
-// Decimates `buffer` in place by `factor`: it holds frames × factor rows of `lanes` lanes, and
-// afterwards its first `frames` rows are the result. Lanes from `active` on are left alone.
+// Decimates `buffer` in place by the call's factor: it holds frames × factor rows of `lanes` lanes, and
+// afterwards its first `frames` rows are the result. Lanes from `active` on are left alone. An accepted
+// call's frames.
 pub fn process(
     designs: Designs,
-    factor: u32,
-    lanes: u32,
-    active: u32,
-    frames: u32,
+    call: CallNumbers,
     buffer: &mut [f32],
     state: &mut [f32],
-) -> Answer
-    ensures { Decimated designs coefs_length factor lanes active frames
-        buffer.old state.old buffer.new state.new result }
+) -> Result<u32, Refusal>
+    ensures { Decimated designs coefs_length call.factor call.lanes call.active call.frames
+        buffer.old state.old buffer.new state.new (answer_of result) }
 {
-    let last = designs.stages[0];
-    let middle = designs.stages[1];
-    let first = designs.stages[2];
-    let number = refused(
-        factor,
-        lanes,
-        active,
-        frames,
-        last.count,
-        middle.count,
-        first.count,
-        COEFS_LENGTH,
-        buffer.len(),
-        state.len(),
-    );
-    if number != 0 {
-        return Answer {
-            number: number,
-            frames: 0,
-        };
-    }
+    let [last, middle, first] = designs.stages;
+    let counts = [last.count, middle.count, first.count];
+    check(call, counts, COEFS_LENGTH, buffer.len(), state.len())?;
     decimate_lanes(
-        designs,
-        stages_of(factor),
-        frames as usize,
-        lanes as usize,
-        active as usize,
+        &designs,
+        stages_of(call.factor),
+        call.frames as usize,
+        call.lanes as usize,
+        call.active as usize,
         buffer,
         state,
     );
-    Answer {
-        number: 0,
-        frames: frames,
-    }
+    Ok(call.frames)
 }

@@ -1,10 +1,10 @@
 // A stage's allpass coefficients, and the card's own.
-ghost use Rattle.std.specs.Prelude.{◌≡◌, ◌+◌, ◌≤◌, length};
+ghost use Rattle.std.specs.Prelude.{◌≡◌, ◌+◌, ◌≤◌, length, slice_index};
 ghost use Rattle.limits.specs.Lengths.{coefs_length};
 ghost use Rattle.halfband.specs.Floats.{design_at, designs_of, card_designs};
 
 // The first coefficient goes to the path that is fed the later sample of each pair, then they
-// alternate.
+// alternate. Of the twelve the first `count` are taken: there is no heap, and C lends twelve of each design.
 #[derive(Clone, Copy)]
 pub struct Design {
     pub coefs: [f32; 12],
@@ -74,6 +74,7 @@ pub const CARD: Designs = Designs {
     ],
 };
 
+#[tactic(auto, unfolding(crate::specs::Floats::card_designs))]
 pub fn card_designs() -> Designs
     ensures { result ≡ card_designs }
 {
@@ -86,24 +87,24 @@ fn design_at(coefs: &[f32], at: usize, count: u32) -> Design
     ensures { result ≡ design_at coefs.now at count }
 {
     let mut taken = [0.0; 12];
-    for i in 0..12 {
-        taken[i] = coefs[at + i];
-    }
+    taken.copy_from_slice(&coefs[at..at + 12]);
     Design {
         coefs: taken,
-        count: count,
+        count,
     }
 }
 
 // Three designs from one slice, 12 coefficients each.
-pub fn designs_of(coefs: &[f32], count0: u32, count1: u32, count2: u32) -> Designs
+#[tactic(auto, unfolding(crate::specs::Floats::designs_of))]
+pub fn designs_of(coefs: &[f32], counts: [u32; 3]) -> Designs
     requires { coefs_length ≤ length coefs.now }
-    ensures { result ≡ designs_of coefs.now count0 count1 count2 }
+    ensures { result ≡ designs_of coefs.now (slice_index counts 0) (slice_index counts 1) (slice_index counts 2) }
 {
-    let last = design_at(coefs, 0, count0);
-    let middle = design_at(coefs, 12, count1);
-    let first = design_at(coefs, 24, count2);
     Designs {
-        stages: [last, middle, first],
+        stages: [
+            design_at(coefs, 0, counts[0]),
+            design_at(coefs, 12, counts[1]),
+            design_at(coefs, 24, counts[2]),
+        ],
     }
 }

@@ -9,4 +9,4 @@ pub mod stage;
 
 pub use cascade::{decimate_lane, process, stages_of};
 pub use design::{CARD, Design, Designs, card_designs, designs_of};
-pub use refusal::{numbers_refused, refused};
+pub use refusal::{CallNumbers, check, check_numbers};

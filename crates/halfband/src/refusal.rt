@@ -1,69 +1,66 @@
 // When a decimation is turned down.
-ghost use Rattle.std.specs.Prelude.{◌≡◌, false, ◌||◌, ◌≤◌};
+ghost use Rattle.std.specs.Prelude.{◌≡◌, false, ◌||◌, ◌≤◌, slice_index};
 ghost use Rattle.limits.specs.Lines.{first_of, number_lines, bad_factor, bad_lanes, bad_frames, bad_counts};
 ghost use Rattle.limits.specs.Lengths.{rendered_length, state_length, shorter};
+ghost use Rattle.limits.specs.Refusals.{number_of};
 ghost use Rattle.halfband.specs.Refusal.{refusal};
 
 use limits::{
-    COEFS_LENGTH, counts_bad, factor_bad, first_line, frames_bad, lanes_bad, rendered_length,
-    short, state_length,
+    COEFS_LENGTH, Refusal, check_lines, counts_bad, factor_bad, frames_bad, lanes_bad,
+    rendered_length, short, state_length,
 };
 
-// Lines 2, 3, 4 and 6, for a decimation's numbers and a plan's.
-pub fn numbers_refused(
-    factor: u32,
-    lanes: u32,
-    active: u32,
-    frames: u32,
-    count0: u32,
-    count1: u32,
-    count2: u32,
-) -> u32
-    ensures { result ≡ first_of (number_lines false (bad_factor factor) (bad_lanes lanes active) (bad_frames frames) false (bad_counts count0 count1 count2)) }
+// The numbers of a call: `frames` are its output frames, `active` the lanes that it decimates.
+#[derive(Clone, Copy)]
+pub struct CallNumbers {
+    pub factor: u32,
+    pub lanes: u32,
+    pub active: u32,
+    pub frames: u32,
+}
+
+// Lines 2, 3, 4 and 6, for a decimation's numbers and a plan's; `counts` are the three designs'.
+#[tactic(auto, unfolding(limits::specs::Lines::first_of, limits::specs::Refusals::line_of))]
+pub fn check_numbers(call: CallNumbers, counts: [u32; 3]) -> Result<(), Refusal>
+    ensures { number_of result ≡ first_of (number_lines false (bad_factor call.factor) (bad_lanes call.lanes call.active) (bad_frames call.frames) false (bad_counts (slice_index counts 0) (slice_index counts 1) (slice_index counts 2))) }
 {
-    first_line(
-        false,
-        factor_bad(factor),
-        lanes_bad(lanes, active),
-        frames_bad(frames),
-        false,
-        counts_bad(count0, count1, count2),
-    )
+    let [count0, count1, count2] = counts;
+    check_lines(&[
+        (factor_bad(call.factor), Refusal::Factor),
+        (lanes_bad(call.lanes, call.active), Refusal::Lanes),
+        (frames_bad(call.frames), Refusal::Frames),
+        (counts_bad(count0, count1, count2), Refusal::Design),
+    ])
 }
 
 // Line 8.
-fn written_short(factor: u32, lanes: u32, frames: u32, buffer: usize, state: usize) -> bool
-    requires { (frames ≤ 4096) × (factor ≤ 8) × (lanes ≤ 64) }
-    ensures { result ≡ (shorter (rendered_length frames factor lanes) buffer || shorter (state_length lanes) state) }
+fn written_short(call: CallNumbers, buffer: usize, state: usize) -> bool
+    requires { (call.frames ≤ 4096) × (call.factor ≤ 8) × (call.lanes ≤ 64) }
+    ensures { result ≡ (shorter (rendered_length call.frames call.factor call.lanes) buffer || shorter (state_length call.lanes) state) }
 {
-    short(rendered_length(frames, factor, lanes), buffer) | short(state_length(lanes), state)
+    short(
+        rendered_length(call.frames, call.factor, call.lanes),
+        buffer,
+    ) | short(state_length(call.lanes), state)
 }
 
-// The number of a decimation: the first line that holds, and 0 where it is accepted. `coefs`, `buffer`
-// and `state` are the lengths of what is lent.
-pub fn refused(
-    factor: u32,
-    lanes: u32,
-    active: u32,
-    frames: u32,
-    count0: u32,
-    count1: u32,
-    count2: u32,
+// The first line that holds. `coefs`, `buffer` and `state` are the lengths of what is lent.
+#[tactic(auto, unfolding(limits::specs::Lines::first_of, limits::specs::Refusals::number_of, limits::specs::Refusals::line_of, crate::specs::Refusal::refusal))]
+pub fn check(
+    call: CallNumbers,
+    counts: [u32; 3],
     coefs: usize,
     buffer: usize,
     state: usize,
-) -> u32
-    ensures { result ≡ refusal factor lanes active frames count0 count1 count2 coefs buffer state }
+) -> Result<(), Refusal>
+    ensures { number_of result ≡ refusal call.factor call.lanes call.active call.frames (slice_index counts 0) (slice_index counts 1) (slice_index counts 2) coefs buffer state }
 {
-    let number = numbers_refused(factor, lanes, active, frames, count0, count1, count2);
-    if number != 0 {
-        return number;
-    }
+    check_numbers(call, counts)?;
     if short(COEFS_LENGTH, coefs) {
-        return 7;
+        return Err(Refusal::ShortRead);
     }
-    if written_short(factor, lanes, frames, buffer, state) {
-        return 8;
+    if written_short(call, buffer, state) {
+        return Err(Refusal::ShortWrite);
     }
-    0
+    Ok(())
 }

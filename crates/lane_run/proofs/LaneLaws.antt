@@ -1,14 +1,20 @@
 -- The laws of a lane's call: its number by the block run's, what an accepted one has, and what it promises turned down and done.
 -- Assumes nothing.
-use mathlib.Core.Path.{◌≡◌, refl, sym, ◌∙◌, subst}
+use mathlib.Core.Path.{◌≡◌, refl, sym, ◌∙◌, ap, subst}
 use mathlib.Core.Bool.{Bool, true, false, cond, not, ◌||◌}
 use Prim.Native.Nat.{ℕ, ◌+◌, ◌<◌, ◌≤◌}
 use native.Mathlib.Decide.{dec_lt}
 use native.Mathlib.Omega.{arith}
 use lib.Dec.{eqb}
+use Rattle.std.specs.Prelude.{Option, Some, None, Result, Ok, Err}
+use Rattle.std.specs.Result.{IsErrAnd}
+use Rattle.std.specs.Option.{ForSome}
+use Rattle.std.proofs.lemmas.Option.{none-some, same_Some}
 use borrow.Author.Tests.{lt-ltb, le-ltb, ne_eqb, eq-eqb}
+use Rattle.limits.specs.declared.refusal.Refusal.{Refusal}
+use Rattle.limits.specs.Refusals.{line_of, number_of, answer_of}
 use Rattle.limits.specs.Lines.{first_of, bad_modes, bad_factor, bad_lanes, bad_range, bad_rate, bad_counts}
-use Rattle.limits.proofs.LineLaws.{all_lines}
+use Rattle.limits.proofs.LineLaws.{all_lines, some_line}
 use Rattle.shaper.specs.declared.settings.Range.{Range}
 use Rattle.render.specs.declared.state.BlockSettings.{BlockSettings}
 use Rattle.render.specs.Lane.{Lent}
@@ -21,7 +27,7 @@ use Rattle.block.specs.Refusal.{reads_short, writes_short, block_refusal}
 use Rattle.block.specs.Call.{Call, called, call_numbers, read_lengths, write_lengths, refusal_of, Taken}
 use Rattle.block.proofs.RefusalLaws.{accepted}
 use Rattle.block.proofs.SharedLaws.{sizes_lengths}
-use Rattle.block.proofs.CallLaws.{meets_refused, meets_shared}
+use Rattle.block.proofs.CallLaws.{meets_turned_down, meets_shared}
 use Rattle.lane_run.specs.declared.either.Interval.{Interval}
 use Rattle.lane_run.specs.LaneCall.{lane_refusal, lane_refusal_of, LaneMeets}
 use Rattle.lane_run.specs.Either.{either_refusal, interval_of, EitherMeets}
@@ -144,9 +150,15 @@ module _ (b : BlockSettings) (r : Range) (active lane coefs numbers : ℕ) (l : 
         sizes = refl;
       }
 
+  pub lane_turned_down : (outcome : Result ℕ Refusal) (e : Refusal) → IsErrAnd outcome (λ x. x ≡ e)
+      → number_of {A = Unit {0}} (Err e) ≡ number → LaneMeets (called b r active coefs numbers l w w (answer_of outcome)) lane
+  unfolding number_of answer_of
+  lane_turned_down (Ok _) e h is = absurd h
+  lane_turned_down (Err x) e h is = lane_refused (line_of x) (ap line_of h ∙ is) (λ z. omega (arith, some_line x))
+
   pub lane_shared : {w' : Buffers} → number ≡ 0 → Shared b r l lane (lane + 1) w w'
-      → LaneMeets (called b r active coefs numbers l w w' (record { number = 0; frames = r.count })) lane
-  unfolding lane_refusal_of
+      → LaneMeets (called b r active coefs numbers l w w' (answer_of (Ok r.count))) lane
+  unfolding lane_refusal_of answer_of
   lane_shared ok did =
       record {
         number = sym ok;
@@ -158,44 +170,34 @@ module _ (b : BlockSettings) (r : Range) (active lane coefs numbers : ℕ) (l : 
 
 -- ---- either call
 
-pub as_run : (one : Bool) (lane : ℕ) (call : CallNumbers) (reads : ReadLengths) (writes : WriteLengths) → not one ≡ true
-    → either_refusal one lane call reads writes ≡ block_refusal call reads writes
-as_run true lane call reads writes e = absurd (let z : ◌≡◌ {A = ℕ} 0 1 = cc in omega arith)
-as_run false lane call reads writes e = refl
+module _ (call : CallNumbers) (reads : ReadLengths) (writes : WriteLengths) where
+  pub either_passed : (lane : Option ℕ) → either_refusal lane call reads writes ≡ 0 → block_refusal call reads writes ≡ 0
+  either_passed (Some lane) ok = lane_passed call lane reads writes ok
+  either_passed None ok = ok
 
-pub as_lane : (one : Bool) (lane : ℕ) (call : CallNumbers) (reads : ReadLengths) (writes : WriteLengths) → not one ≡ false
-    → either_refusal one lane call reads writes ≡ lane_refusal lane call reads writes
-as_lane true lane call reads writes e = refl
-as_lane false lane call reads writes e = absurd (let z : ◌≡◌ {A = ℕ} 0 1 = cc in omega arith)
+module _ (b : BlockSettings) (r : Range) (active coefs numbers : ℕ) (l : Lent) (w : Buffers) where
+  abbrev told : Option ℕ → ℕ
+  told lane = either_refusal lane (call_numbers b r active) (read_lengths coefs numbers l) (write_lengths w)
 
-module _ (call : CallNumbers) (lane : ℕ) (reads : ReadLengths) (writes : WriteLengths) where
-  pub either_passed : (one : Bool) → either_refusal one lane call reads writes ≡ 0 → block_refusal call reads writes ≡ 0
-  either_passed true ok = lane_passed call lane reads writes ok
-  either_passed false ok = ok
+  pub either_active : (lane : Option ℕ) → told lane ≡ 0 → ForSome lane (λ one. one < active)
+  either_active (Some lane) ok x e = let low = lane_active (call_numbers b r active) lane _ _ ok in omega (arith, same_Some lane x e)
+  either_active None ok x e = absurd (none-some x e)
 
-module _ (b : BlockSettings) (r : Range) (active lane coefs numbers : ℕ) (l : Lent) (w : Buffers) where
-  abbrev told : Bool → ℕ
-  told one = either_refusal one lane (call_numbers b r active) (read_lengths coefs numbers l) (write_lengths w)
+  pub either_taken : (lane : Option ℕ) → told lane ≡ 0
+      → let lanes = interval_of lane active in (lanes.from ≤ lanes.to) × Taken b r lanes.to l w
+  either_taken (Some lane) ok = (omega arith, lane_taken b r active lane coefs numbers l w ok)
+  either_taken None ok = (omega arith, accepted b r active coefs numbers l w ok)
 
-  pub either_active : (one : Bool) → told one ≡ 0 → one ≡ true → lane < active
-  either_active true ok e = lane_active (call_numbers b r active) lane _ _ ok
-  either_active false ok e = absurd (let z : ◌≡◌ {A = ℕ} 0 1 = cc in omega arith)
+  pub either_turned_down : (lane : Option ℕ) (outcome : Result ℕ Refusal) (e : Refusal) → IsErrAnd outcome (λ x. x ≡ e)
+      → number_of {A = Unit {0}} (Err e) ≡ told lane → EitherMeets lane (called b r active coefs numbers l w w (answer_of outcome))
+  either_turned_down (Some lane) = lane_turned_down b r active lane coefs numbers l w
+  either_turned_down None = meets_turned_down b r active coefs numbers l w
 
-  pub either_taken : (one : Bool) → told one ≡ 0
-      → let lanes = interval_of one lane active in (lanes.from ≤ lanes.to) × Taken b r lanes.to l w
-  either_taken true ok = (omega arith, lane_taken b r active lane coefs numbers l w ok)
-  either_taken false ok = (omega arith, accepted b r active coefs numbers l w ok)
-
-  pub either_refused : (one : Bool) (answer : ℕ) → answer ≡ told one → (answer ≡ 0 → ⊥)
-      → EitherMeets one (called b r active coefs numbers l w w (record { number = answer; frames = 0 })) lane
-  either_refused true = lane_refused b r active lane coefs numbers l w
-  either_refused false = meets_refused b r active coefs numbers l w
-
-  pub either_shared : (one : Bool) {w' : Buffers} → told one ≡ 0
-      → let lanes = interval_of one lane active in Shared b r l lanes.from lanes.to w w'
-      → EitherMeets one (called b r active coefs numbers l w w' (record { number = 0; frames = r.count })) lane
-  either_shared true = lane_shared b r active lane coefs numbers l w
-  either_shared false = meets_shared b r active coefs numbers l w
+  pub either_shared : (lane : Option ℕ) {w' : Buffers} → told lane ≡ 0
+      → let lanes = interval_of lane active in Shared b r l lanes.from lanes.to w w'
+      → EitherMeets lane (called b r active coefs numbers l w w' (answer_of (Ok r.count)))
+  either_shared (Some lane) = lane_shared b r active lane coefs numbers l w
+  either_shared None = meets_shared b r active coefs numbers l w
 
 -- by settings and an interval that are the same
 pub taken_by : {b b' : BlockSettings} {r : Range} {i j : Interval} {l : Lent} {w : Buffers} → b' ≡ b → i ≡ j

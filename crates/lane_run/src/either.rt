@@ -1,5 +1,6 @@
 // The lanes that a block run or a lane's gives their share.
-ghost use Rattle.std.specs.Prelude.{◌≡◌, true, ◌<◌};
+ghost use Rattle.std.specs.Prelude.{◌≡◌, ◌<◌};
+ghost use Rattle.std.specs.Option.{ForSome};
 ghost use Rattle.lane_run.specs.Either.{interval_of};
 
 // From ≤ lane < to.
@@ -9,19 +10,19 @@ pub struct Interval {
     pub to: u32,
 }
 
-pub fn interval_of(one: bool, lane: u32, active: u32) -> Interval
-    requires { one ≡ true → lane < active }
-    ensures { result ≡ interval_of one lane active }
+// The one lane, or the active ones.
+pub fn interval_of(lane: Option<u32>, active: u32) -> Interval
+    requires { ForSome lane (λ one. one < active) }
+    ensures { result ≡ interval_of lane active }
 {
-    if one {
-        Interval {
+    match lane {
+        Some(lane) => Interval {
             from: lane,
             to: lane + 1,
-        }
-    } else {
-        Interval {
+        },
+        None => Interval {
             from: 0,
             to: active,
-        }
+        },
     }
 }

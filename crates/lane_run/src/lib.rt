@@ -6,5 +6,5 @@ pub mod refusal;
 pub mod run;
 
 pub use either::{Interval, interval_of};
-pub use refusal::refused_either;
+pub use refusal::check_either;
 pub use run::lane_run;

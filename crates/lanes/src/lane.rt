@@ -10,12 +10,14 @@ pub fn mul_add(x: f32, mul: f32, add: f32) -> f32
     x * mul + add
 }
 
+#[tactic(auto, unfolding(crate::specs::Lane::min_of))]
 pub fn min(x: f32, other: f32) -> f32
     ensures { result ≡ min_of x other }
 {
     if other < x { other } else { x }
 }
 
+#[tactic(auto, unfolding(crate::specs::Lane::max_of))]
 pub fn max(x: f32, other: f32) -> f32
     ensures { result ≡ max_of x other }
 {

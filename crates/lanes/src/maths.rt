@@ -1,7 +1,6 @@
 // The fast maths of lanes.rs: sine, arctangent, the hyperbolic tangent and the like.
-ghost use Rattle.std.specs.Prelude.{◌≡◌, slice_index_or};
+ghost use Rattle.std.specs.Prelude.{◌≡◌, ◌-◌, ◌<◌, length, slice_index_or};
 ghost use Rattle.std.specs.Float.{nan};
-ghost use Rattle.floats.specs.Exp2.{entries};
 ghost use Rattle.lanes.specs.Maths.{pick_of, above_of, sign_of, clamp_of, smoothstep_of, horner, sin_cycles, cos_cycles, half_of, atan_of, tanh_of, exp_of, ln_series, ln_of, ln_cosh, tan_of};
 ghost use Rattle.lanes.specs.Numbers.{rust_numbers};
 
@@ -43,6 +42,7 @@ pub const ATAN: [f32; 8] = [
 ];
 
 // The two together.
+#[tactic(auto, unfolding(crate::specs::Numbers::rust_numbers))]
 pub fn rust_numbers() -> Numbers
     ensures { result ≡ rust_numbers }
 {
@@ -60,6 +60,7 @@ pub fn pick(mask: f32, a: f32, b: f32) -> f32
 }
 
 // 1 where `x > 0`, else 0 (+0 counts as above).
+#[tactic(auto, unfolding(crate::specs::Maths::above_of))]
 pub fn above(x: f32) -> f32
     ensures { result ≡ above_of x }
 {
@@ -88,10 +89,18 @@ pub fn smoothstep(t: f32) -> f32
     t * t * t * (t * (t * 6.0 + -15.0) + 10.0)
 }
 
-fn sin_polynomial(k: [f32; 5], x2: f32) -> f32
-    ensures { result ≡ horner k x2 4 (slice_index_or k 4 nan) }
+// The polynomial with the coefficients `k` at `x2`, from the last coefficient down.
+#[tactic(auto, unfolding(crate::specs::Maths::horner))]
+fn polynomial(k: &[f32], x2: f32) -> f32
+    requires { 0 < length k.now }
+    ensures { result ≡ horner k.now x2 (length k.now - 1) (slice_index_or k.now (length k.now - 1) nan) }
 {
-    (((k[4] * x2 + k[3]) * x2 + k[2]) * x2 + k[1]) * x2 + k[0]
+    let last = k.len() - 1;
+    let mut p = k[last];
+    for i in (0..last).rev() {
+        p = p * x2 + k[i];
+    }
+    p
 }
 
 // sin 2πt, for `t` in cycles (within ±2^23).
@@ -105,11 +114,12 @@ pub fn sin_cycles(numbers: Numbers, t: f32) -> f32
     let x = a * TAU;
     let x2 = x * x;
     let k = numbers.sin;
-    let p = sin_polynomial(k, x2);
+    let p = polynomial(&k, x2);
     (p * x) * sign(wrapped)
 }
 
 // cos 2πt, for `t` in cycles.
+#[tactic(auto, unfolding(crate::specs::Maths::cos_cycles))]
 pub fn cos_cycles(numbers: Numbers, t: f32) -> f32
     ensures { result ≡ cos_cycles numbers.sin t }
 {
@@ -123,13 +133,6 @@ fn half(x: f32) -> f32
     x / (1.0 + sqrt(x * x + 1.0))
 }
 
-fn atan_polynomial(k: [f32; 8], x2: f32) -> f32
-    ensures { result ≡ horner k x2 7 (slice_index_or k 7 nan) }
-{
-    ((((((k[7] * x2 + k[6]) * x2 + k[5]) * x2 + k[4]) * x2 + k[3]) * x2 + k[2]) * x2 + k[1]) * x2
-        + k[0]
-}
-
 // atan x: two half-angle steps bring |x| below tan(π/8), then a polynomial.
 pub fn atan(numbers: Numbers, x: f32) -> f32
     ensures { result ≡ atan_of numbers.atan x }
@@ -137,26 +140,25 @@ pub fn atan(numbers: Numbers, x: f32) -> f32
     let x = half(half(x));
     let x2 = x * x;
     let k = numbers.atan;
-    let p = atan_polynomial(k, x2);
+    let p = polynomial(&k, x2);
     p * x * 4.0
 }
 
 // tanh x: 1 - 2 / (1 + e^2x), with x clamped to ±9.
-pub fn tanh(powers: &[u32; 257], x: f32) -> f32
-    requires { powers.now ≡ entries }
+pub fn tanh(x: f32) -> f32
     ensures { result ≡ tanh_of x }
 {
     let x = clamp(x, -9.0, 9.0);
-    let e = exp2(powers, x * (2.0 * LOG2_E));
+    let e = exp2(x * (2.0 * LOG2_E));
     1.0 - 2.0 / (e + 1.0)
 }
 
 // e^x.
-pub fn exp(powers: &[u32; 257], x: f32) -> f32
-    requires { powers.now ≡ entries }
+#[tactic(auto, unfolding(crate::specs::Maths::exp_of))]
+pub fn exp(x: f32) -> f32
     ensures { result ≡ exp_of x }
 {
-    exp2(powers, x * LOG2_E)
+    exp2(x * LOG2_E)
 }
 
 // 1 + t2 / 3 + t2^2 / 5 + ..: atanh t / t, as an odd series to t^13.
@@ -186,12 +188,11 @@ pub fn ln(x: f32) -> f32
 }
 
 // ln cosh x, without overflow: |x| + ln(1 + e^-2|x|) - ln 2.
-pub fn ln_cosh(powers: &[u32; 257], x: f32) -> f32
-    requires { powers.now ≡ entries }
+pub fn ln_cosh(x: f32) -> f32
     ensures { result ≡ ln_cosh x }
 {
     let a = abs(x);
-    a + ln(1.0 + exp(powers, a * -2.0)) - LN_2
+    a + ln(1.0 + exp(a * -2.0)) - LN_2
 }
 
 // tan x for 0 <= x <= 1.45: sin over cos.

@@ -10,12 +10,14 @@ use floats::{cast_usize, cast_word, floor, nearest_i32};
 const TWO_32: f32 = 4294967296.0;
 
 // Added, wrapping.
+#[tactic(auto, unfolding(crate::specs::Word::add_words))]
 pub fn add_words(a: u32, b: u32) -> u32
     ensures { result ≡ add_words a b }
 {
     std::num::wrapping_add_u32(a, b)
 }
 
+#[tactic(auto, unfolding(crate::specs::Word::add_words))]
 fn sub_words(b: u32, a: u32) -> u32
     ensures { result ≡ add_words b (2 ^ 32 - a) }
 {
@@ -33,6 +35,7 @@ fn mul_words(a: u32, b: u32) -> u32
 }
 
 // `b` where `mask` is 1, `a` where it's 0.
+#[tactic(auto, unfolding(crate::specs::Word::pick_word))]
 pub fn pick_word(mask: f32, a: u32, b: u32) -> u32
     ensures { result ≡ pick_word mask a b }
 {
@@ -40,6 +43,7 @@ pub fn pick_word(mask: f32, a: u32, b: u32) -> u32
 }
 
 // A phase word read as a signed fraction of a cycle, -1/2 to 1/2.
+#[tactic(auto, unfolding(crate::specs::Word::signed_of))]
 pub fn signed(word: u32) -> f32
     ensures { result ≡ signed_of word }
 {

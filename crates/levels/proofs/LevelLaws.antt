@@ -6,14 +6,18 @@ use Prim.Native.Nat.{ℕ, ◌≤◌, ◌<◌}
 use lib.Dec.{ltb}
 use lib.Ieee.{Float}
 use borrow.Author.Tests.{lt-ltb, le-ltb, ne_eqb, not-false}
+use Rattle.std.proofs.Common.{Result, Ok, Err}
+use Rattle.std.specs.Result.{IsErrAnd}
 use Rattle.floats.specs.Steps.{by_taken, by_left}
+use Rattle.limits.specs.declared.refusal.Refusal.{Refusal}
+use Rattle.limits.specs.Refusals.{number_of}
 use Rattle.limits.specs.Lines.{first_of}
 use Rattle.limits.specs.Search.{least_below}
-use Rattle.limits.proofs.LineLaws.{first_passed}
+use Rattle.limits.proofs.LineLaws.{first_passed, some_number}
 use Rattle.limits.proofs.SearchLaws.{least_some}
 use Rattle.modes.specs.Table.{is_distortion}
 use Rattle.levels.specs.Levels.{amounts, within_at}
-use Rattle.levels.specs.Found.{accepted, turned_down, level_refusal, searched_of, found_of}
+use Rattle.levels.specs.Found.{accepted, turned_down, found_answer, level_refusal, searched_of, found_of}
 
 -- ---- lines 1 and 7
 
@@ -59,3 +63,10 @@ module _ (sk : List Float) (count mode : ℕ) (sample wanted tolerance : Float) 
   pub passed : number ≡ 0 → searched_of (within_at sk mode sample wanted tolerance) ≡ found_of sk count mode sample wanted tolerance
   unfolding found_of
   passed z = by_taken _ _ _ _ (rw (← e, z)) refl
+
+-- by the table's first line that holds, as `?` hands it on
+pub refused_lem : (sk : List Float) (count mode : ℕ) (sample wanted tolerance : Float) (r : Result ℕ Refusal) (e : Refusal) → IsErrAnd r (λ x. x ≡ e) → number_of {A = Unit {0}} (Err e) ≡ level_refusal mode count
+    → found_answer r ≡ found_of sk count mode sample wanted tolerance
+unfolding found_answer number_of
+refused_lem sk count mode sample wanted tolerance (Ok h) e handed is = absurd handed
+refused_lem sk count mode sample wanted tolerance (Err x) e handed is = rw handed (turned_down_lem sk count mode sample wanted tolerance is (some_number e))

@@ -1,6 +1,8 @@
 -- What the call answers. Definitions only.
-use Rattle.std.specs.Prelude.{ℕ, Bool, not, List, [], ◌∷◌, eqb, Float}
+use Rattle.std.specs.Prelude.{ℕ, Bool, not, List, [], ◌∷◌, eqb, Float, Result, Ok, Err}
 use Rattle.floats.specs.Steps.{when◌then◌else◌}
+use Rattle.limits.specs.declared.refusal.Refusal.{Refusal}
+use Rattle.limits.specs.Refusals.{line_of}
 use Rattle.limits.specs.Lines.{first_of}
 use Rattle.limits.specs.Lengths.{numbers_length, shorter}
 use Rattle.limits.specs.Search.{some_below, least_below}
@@ -14,6 +16,11 @@ accepted h = record { number = 0; hundredths = h }
 -- no hundredths
 abbrev pub turned_down : ℕ → Found
 turned_down number = record { number = number; hundredths = 0 }
+
+-- what C hears of an outcome
+unfoldable pub found_answer : Result ℕ Refusal → Found
+found_answer (Ok hundredths) = accepted hundredths
+found_answer (Err refusal) = turned_down (line_of refusal)
 
 -- 1: a mode that is no distortion; 7: fewer than 13 sine and arctangent numbers, of which `count` are lent
 unfoldable pub level_refusal : ℕ → ℕ → ℕ

@@ -1,18 +1,18 @@
 -- The search in parts: what its functions promise. Definitions only.
-use Rattle.std.specs.Prelude.{ℕ, ◌+◌, Bool, List, Float}
+use Rattle.std.specs.Prelude.{ℕ, Bool, cond, ltb, List, Float, Option, Some, None}
 use Rattle.floats.specs.F32.{◌⊗◌}
-use Rattle.grid.specs.Functions.{table}
+use Rattle.limits.specs.Search.{least_below}
 use Rattle.wave.specs.Curve.{curve_of}
 use Rattle.wave.specs.Smooth.{drive_of, rectified}
 use Rattle.levels.specs.Levels.{amount_of, within_of}
 
+-- the least number below k that has p, if one has it
+unfoldable pub least_of : ℕ → (ℕ → Bool) → Option ℕ
+least_of k p = cond (ltb (least_below k p) k) (Some (least_below k p)) None
+
 -- how many amounts a part has
 abbrev pub part_length : ℕ
 part_length = 64
-
--- the drives of so many amounts from `from` on
-unfoldable pub drives_from : ℕ → ℕ → ℕ → List Float
-drives_from mode from count = table count (λ i. drive_of mode (amount_of (from + i)))
 
 -- whether an amount serves, of Rectify and of any other mode
 unfoldable pub rectified_at : Float → Float → Float → ℕ → Bool

@@ -6,16 +6,16 @@ pub mod search;
 
 ghost use Rattle.std.specs.Prelude.{◌≡◌};
 ghost use Rattle.limits.specs.Lengths.{numbers_length};
+ghost use Rattle.limits.specs.Refusals.{number_of};
 ghost use Rattle.levels.specs.Levels.{within_at};
-ghost use Rattle.levels.specs.Found.{level_refusal, searched_of, found_of};
+ghost use Rattle.levels.specs.Found.{found_answer, level_refusal, searched_of, found_of};
 
-use lanes::Numbers;
-use limits::{NUMBERS_LENGTH, short};
+use limits::{NUMBERS_LENGTH, Refusal, check_lines, short};
 use modes::is_distortion;
-use search::{AMOUNTS, least_within};
+pub use search::Search;
 
 // The number by which a call is turned down, 0 where it is accepted, and the amount in hundredths of a
-// percent, 0 where it is turned down.
+// percent, 0 where it is turned down: what C hears.
 #[repr(C)]
 #[derive(Clone, Copy)]
 pub struct Found {
@@ -23,48 +23,48 @@ pub struct Found {
     pub hundredths: u32,
 }
 
+impl From<Result<u32, Refusal>> for Found {
+    ghost from_gives = { λ r f. f ≡ found_answer r };
+
+    #[tactic(auto, unfolding(crate::specs::Found::found_answer))]
+    fn from(outcome: Result<u32, Refusal>) -> Found {
+        match outcome {
+            Ok(hundredths) => Found {
+                number: 0,
+                hundredths,
+            },
+            Err(refusal) => Found {
+                number: u32::from(refusal),
+                hundredths: 0,
+            },
+        }
+    }
+}
+
 // Lines 1 and 7, for a mode and how many sine and arctangent numbers are lent.
-pub fn refused(mode: u32, numbers: usize) -> u32
-    ensures { result ≡ level_refusal mode numbers }
+#[tactic(auto, unfolding(crate::specs::Found::level_refusal, limits::specs::Refusals::line_of))]
+pub fn check(mode: u32, numbers: usize) -> Result<(), Refusal>
+    ensures { number_of result ≡ level_refusal mode numbers }
 {
-    if !is_distortion(mode) {
-        return 1;
-    }
-    if short(NUMBERS_LENGTH, numbers) {
-        return 7;
-    }
-    0
+    check_lines(&[
+        (!is_distortion(mode), Refusal::Mode),
+        (short(NUMBERS_LENGTH, numbers), Refusal::ShortRead),
+    ])
 }
 
-// What the search gives, once the call has got past these lines: 12 where no amount serves.
-pub fn searched(numbers: Numbers, mode: u32, sample: f32, wanted: f32, tolerance: f32) -> Found
-    ensures { result ≡ searched_of (within_at numbers.sin mode sample wanted tolerance) }
+// What the search gives, once the call has got past these lines.
+#[tactic(auto, unfolding(crate::specs::Found::found_answer, crate::specs::Found::searched_of, crate::specs::Parts::least_of, limits::specs::Refusals::line_of), using(floats::specs::Steps::by_taken, floats::specs::Steps::by_left, limits::proofs::SearchLaws::least_some))]
+pub fn searched(search: Search) -> Result<u32, Refusal>
+    ensures { found_answer result ≡ searched_of (within_at search.numbers.sin search.mode search.sample search.wanted search.tolerance) }
 {
-    let powers = floats::power_table();
-    let least = least_within(&powers, numbers, mode, sample, wanted, tolerance);
-    if least < AMOUNTS {
-        return Found {
-            number: 0,
-            hundredths: least,
-        };
-    }
-    Found {
-        number: 12,
-        hundredths: 0,
-    }
+    search.least().ok_or(Refusal::NoAmount)
 }
 
-// The least amount for which the mode bends `sample` to within `tolerance` of `wanted`. Turned down: 1 for
-// a mode that is no distortion, 12 where no amount serves.
-pub fn amount_for(numbers: Numbers, mode: u32, sample: f32, wanted: f32, tolerance: f32) -> Found
-    ensures { result ≡ found_of numbers.sin numbers_length mode sample wanted tolerance }
+// The least amount that serves. Turned down: a mode that is no distortion, and where no amount serves.
+#[tactic(auto, unfolding(crate::specs::Found::found_answer, crate::specs::Found::found_of, limits::specs::Refusals::number_of), using(floats::specs::Steps::by_taken, floats::specs::Steps::by_left))]
+pub fn amount_for(search: Search) -> Result<u32, Refusal>
+    ensures { found_answer result ≡ found_of search.numbers.sin numbers_length search.mode search.sample search.wanted search.tolerance }
 {
-    let number = refused(mode, NUMBERS_LENGTH);
-    if number != 0 {
-        return Found {
-            number: number,
-            hundredths: 0,
-        };
-    }
-    searched(numbers, mode, sample, wanted, tolerance)
+    check(search.mode, NUMBERS_LENGTH)?;
+    searched(search)
 }

@@ -1,11 +1,16 @@
 -- The laws of the table of refusals: what a call that passes a line has. Assumes nothing.
-use mathlib.Core.Path.{◌≡◌, refl}
+use mathlib.Core.Path.{◌≡◌, refl, ◌∙◌}
 use mathlib.Core.Bool.{Bool, true, false, cond, not, ◌||◌}
 use mathlib.Core.List.{List, [], ◌∷◌}
-use Prim.Native.Nat.{ℕ, suc, ◌+◌, ◌*◌, ◌≤◌, ◌<◌}
+use Prim.Native.Nat.{ℕ, zero, suc, ◌+◌, ◌*◌, ◌≤◌, ◌<◌}
 use native.Mathlib.Omega.{arith}
 use lib.Dec.{ltb, eqb}
-use borrow.Author.Tests.{ltb-true, ltb-false, le-ltb, eqb-true, not-false}
+use lib.ListN.{length, get_or, drop, drop_of_length-le}
+use borrow.Author.Tests.{ltb-true, ltb-false, le-ltb, ne_eqb, eqb-true, not-false}
+use Rattle.limits.specs.declared.refusal.Refusal.{Refusal}
+use Rattle.limits.specs.Refusals.{line_of, number_of, numbered}
+use Rattle.std.specs.Prelude.{Result, Ok, Err}
+use Rattle.std.specs.Result.{IsErrAnd}
 use Rattle.limits.specs.Lines.{first_of, number_lines, bad_factor, bad_lanes, bad_lane, bad_frames, bad_range, bad_frame, bad_asked, bad_points, bad_rate, bad_count, bad_counts}
 
 -- ---- any table
@@ -155,3 +160,49 @@ good_counts a b c e =
     let p = or_false (bad_count a || bad_count b) (bad_count c) e in
     let q = or_false (bad_count a) (bad_count b) p.0 in
     ((good_count a q.0).1, (good_count b q.1).1, (good_count c p.1).1)
+
+-- ---- a table that is gone through line by line
+
+pub first_of-drop : (lines : List (Bool × Refusal)) (i : ℕ) (d : Bool × Refusal) → i < length lines
+    → first_of (numbered (drop i lines)) ≡ cond (get_or lines i d).0 (line_of (get_or lines i d).1) (first_of (numbered (drop (i + 1) lines)))
+unfolding first_of
+first_of-drop [] i d h = absurd (omega arith)
+first_of-drop (line ∷ lines) zero d h = refl
+first_of-drop (line ∷ lines) (suc i) d h = let e : suc i + 1 ≡ suc (i + 1) = omega arith in rw e (first_of-drop lines i d (omega arith))
+
+pub first_of_none : (lines : List (Bool × Refusal)) (i : ℕ) → length lines ≤ i → first_of (numbered (drop i lines)) ≡ 0
+unfolding first_of
+first_of_none lines i h = rw (drop_of_length-le lines h)
+
+-- ---- outcomes
+
+-- a refusal's number is not that of an accepted call
+pub some_line : (r : Refusal) → 0 < line_of r
+unfolding line_of
+some_line Refusal.Mode = omega arith
+some_line Refusal.Factor = omega arith
+some_line Refusal.Lanes = omega arith
+some_line Refusal.Frames = omega arith
+some_line Refusal.Rate = omega arith
+some_line Refusal.Design = omega arith
+some_line Refusal.ShortRead = omega arith
+some_line Refusal.ShortWrite = omega arith
+some_line Refusal.Length = omega arith
+some_line Refusal.Kind = omega arith
+some_line Refusal.Field = omega arith
+some_line Refusal.NoAmount = omega arith
+
+pub some_number : (e : Refusal) → number_of {A = Unit {0}} (Err e) ≡ 0 → ⊥
+unfolding number_of
+some_number e z = omega (arith, some_line e)
+
+-- what `?` hands on has the number of what it met
+pub handed_on : {A : Type 0} (r : Result A Refusal) (e : Refusal) → IsErrAnd r (λ x. x ≡ e) → number_of r ≡ number_of {A = Unit {0}} (Err e)
+unfolding number_of
+handed_on (Ok x) e h = absurd h
+handed_on (Err x) e h = rw h
+
+-- and turned down by lines 1 to 6, a call is turned down by the whole table
+pub by_numbers : {A : Type 0} (r : Result A Refusal) (e : Refusal) (number : ℕ) (g h : Bool) → IsErrAnd r (λ x. x ≡ e)
+    → number_of {A = Unit {0}} (Err e) ≡ number → number_of r ≡ then_lengths number g h
+by_numbers r e number g h handed is = rw (ne_eqb number 0 (λ z. some_number e (is ∙ z))) (handed_on r e handed ∙ is)

@@ -1,7 +1,11 @@
-// What calls answer.
+// What calls answer to C: a number, which is 0 where the call is accepted and else its refusal's, and what an
+// accepted call gives, 0 where it is turned down.
+ghost use Rattle.std.specs.Prelude.{◌≡◌};
+ghost use Rattle.limits.specs.Refusals.{answer_of, valued_of, value_answer};
 
-// The number by which a call is turned down, 0 where it is accepted, and its frames, 0 where it is turned
-// down.
+use crate::refusal::Refusal;
+
+// The frames of a call.
 #[repr(C)]
 #[derive(Clone, Copy)]
 pub struct Answer {
@@ -9,7 +13,22 @@ pub struct Answer {
     pub frames: u32,
 }
 
-// The same with a float that the call answers, 0 where it is turned down.
+impl From<Result<u32, Refusal>> for Answer {
+    ghost from_gives = { λ r a. a ≡ answer_of r };
+
+    #[tactic(auto, unfolding(crate::specs::Refusals::answer_of))]
+    fn from(outcome: Result<u32, Refusal>) -> Answer {
+        match outcome {
+            Ok(frames) => Answer { number: 0, frames },
+            Err(refusal) => Answer {
+                number: u32::from(refusal),
+                frames: 0,
+            },
+        }
+    }
+}
+
+// And a float.
 #[repr(C)]
 #[derive(Clone, Copy)]
 pub struct Valued {
@@ -18,10 +37,45 @@ pub struct Valued {
     pub value: f32,
 }
 
-// And of a call that has no frames.
+impl From<Result<(u32, f32), Refusal>> for Valued {
+    ghost from_gives = { λ r a. a ≡ valued_of r };
+
+    #[tactic(auto, unfolding(crate::specs::Refusals::valued_of))]
+    fn from(outcome: Result<(u32, f32), Refusal>) -> Valued {
+        match outcome {
+            Ok((frames, value)) => Valued {
+                number: 0,
+                frames,
+                value,
+            },
+            Err(refusal) => Valued {
+                number: u32::from(refusal),
+                frames: 0,
+                value: 0.0,
+            },
+        }
+    }
+}
+
+// The float of a call that has no frames.
 #[repr(C)]
 #[derive(Clone, Copy)]
 pub struct Value {
     pub number: u32,
     pub value: f32,
+}
+
+impl From<Result<f32, Refusal>> for Value {
+    ghost from_gives = { λ r a. a ≡ value_answer r };
+
+    #[tactic(auto, unfolding(crate::specs::Refusals::value_answer))]
+    fn from(outcome: Result<f32, Refusal>) -> Value {
+        match outcome {
+            Ok(value) => Value { number: 0, value },
+            Err(refusal) => Value {
+                number: u32::from(refusal),
+                value: 0.0,
+            },
+        }
+    }
 }

@@ -1,4 +1,4 @@
-// Lines 7 and 8 of the table: how long buffers are asked to be. The lines above keep the products small.
+// Lines 7 and 8 of the table: how long buffers are asked to be.
 ghost use Rattle.std.specs.Prelude.{◌≡◌, ◌≤◌, length};
 ghost use Rattle.limits.specs.Lengths.{spans_of, host_length, rendered_length, span_length, pairs_length, carry_length, last_length, state_length, shorter, short_lent, short_controls};
 
@@ -56,19 +56,18 @@ pub fn control_lengths(
 }
 
 // How many sub-blocks a block has.
+#[tactic(auto, unfolding(crate::specs::Lengths::spans_of))]
 pub fn spans_of(frames: usize) -> usize
-    requires { frames ≤ 4096 }
     ensures { result ≡ spans_of frames }
 {
-    (frames + (SUB_BLOCK - 1)) / SUB_BLOCK
+    frames.div_ceil(SUB_BLOCK)
 }
 
 // A number for each host frame.
 pub fn host_length(frames: u32, lanes: u32) -> usize
-    requires { (frames ≤ 4096) × (lanes ≤ 64) }
     ensures { result ≡ host_length frames lanes }
 {
-    (frames * lanes) as usize
+    frames as usize * lanes as usize
 }
 
 // A number for each rendered frame.
@@ -81,7 +80,6 @@ pub fn rendered_length(frames: u32, factor: u32, lanes: u32) -> usize
 
 // A number for each sub-block.
 pub fn span_length(frames: u32, lanes: u32) -> usize
-    requires { (frames ≤ 4096) × (lanes ≤ 64) }
     ensures { result ≡ span_length frames lanes }
 {
     spans_of(frames as usize) * lanes as usize
@@ -89,18 +87,16 @@ pub fn span_length(frames: u32, lanes: u32) -> usize
 
 // The filter pairs.
 pub fn pairs_length(lanes: u32) -> usize
-    requires { lanes ≤ 64 }
     ensures { result ≡ pairs_length lanes }
 {
-    (4 * lanes) as usize
+    4 * lanes as usize
 }
 
 // The FM carry.
 pub fn carry_length(lanes: u32) -> usize
-    requires { lanes ≤ 64 }
     ensures { result ≡ carry_length lanes }
 {
-    (2 * lanes) as usize
+    2 * lanes as usize
 }
 
 // `last`.
@@ -112,10 +108,9 @@ pub fn last_length(lanes: u32) -> usize
 
 // The decimator's state.
 pub fn state_length(lanes: u32) -> usize
-    requires { lanes ≤ 64 }
     ensures { result ≡ state_length lanes }
 {
-    (72 * lanes) as usize
+    72 * lanes as usize
 }
 
 // A buffer of `have` numbers where `need` are asked for.
@@ -134,7 +129,6 @@ fn lent_short(need: usize, have: usize) -> bool
 
 // Line 7 for base, modulation and sources.
 pub fn controls_short(frames: u32, lanes: u32, l: ControlLengths) -> bool
-    requires { (frames ≤ 4096) × (lanes ≤ 64) }
     ensures { result ≡ short_controls frames lanes l }
 {
     let n = lanes as usize;

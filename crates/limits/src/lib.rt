@@ -6,6 +6,7 @@
 pub mod answers;
 pub mod lengths;
 pub mod lines;
+pub mod refusal;
 
 pub use answers::{Answer, Value, Valued};
 pub use lengths::{
@@ -14,6 +15,7 @@ pub use lengths::{
     rendered_length, short, span_length, spans_of, state_length,
 };
 pub use lines::{
-    asked_bad, counts_bad, factor_bad, first_line, frame_bad, frames_bad, lane_bad, lanes_bad,
+    asked_bad, check_lines, counts_bad, factor_bad, frame_bad, frames_bad, lane_bad, lanes_bad,
     mode_bad, modes_bad, points_bad, range_bad, rate_bad,
 };
+pub use refusal::Refusal;

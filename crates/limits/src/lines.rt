@@ -1,6 +1,9 @@
 // Lines 1 to 6 of the table: tests of a call's numbers.
 ghost use Rattle.std.specs.Prelude.{◌≡◌, ◌*◌};
-ghost use Rattle.limits.specs.Lines.{first_of, number_lines, bad_mode, bad_modes, bad_factor, bad_lanes, bad_lane, bad_frames, bad_range, bad_frame, bad_asked, bad_points, bad_rate, bad_count, bad_counts};
+ghost use Rattle.limits.specs.Refusals.{number_of, numbered};
+ghost use Rattle.limits.specs.Lines.{first_of, bad_mode, bad_modes, bad_factor, bad_lanes, bad_lane, bad_frames, bad_range, bad_frame, bad_asked, bad_points, bad_rate, bad_count, bad_counts};
+
+use crate::refusal::Refusal;
 
 // Line 1, for a call with one mode.
 pub fn mode_bad(mode: u32) -> bool
@@ -100,32 +103,14 @@ pub fn counts_bad(count0: u32, count1: u32, count2: u32) -> bool
     count_bad(count0) | count_bad(count1) | count_bad(count2)
 }
 
-// The number of the first of lines 1 to 6 that holds, 0 where none does. Of a line that a call lacks the
-// argument is false.
-pub fn first_line(
-    modes: bool,
-    factor: bool,
-    lanes: bool,
-    frames: bool,
-    rate: bool,
-    counts: bool,
-) -> u32
-    ensures { result ≡ first_of (number_lines modes factor lanes frames rate counts) }
+// The first of these lines that holds, if any does.
+pub fn check_lines(lines: &[(bool, Refusal)]) -> Result<(), Refusal>
+    ensures { number_of result ≡ first_of (numbered lines.now) }
 {
-    if modes {
-        return 1;
+    for (holds, refusal) in lines {
+        if *holds {
+            return Err(*refusal);
+        }
     }
-    if factor {
-        return 2;
-    }
-    if lanes {
-        return 3;
-    }
-    if frames {
-        return 4;
-    }
-    if rate {
-        return 5;
-    }
-    if counts { 6 } else { 0 }
+    Ok(())
 }

@@ -1,4 +1,3 @@
 pub mod Ranges
 pub mod Laws
-pub mod Arms
 pub mod Choice

@@ -1,7 +1,6 @@
 -- The definitions that contracts cite. Their laws are in proofs/.
 pub mod Mode
-pub mod Facts
+pub mod Stage
 pub mod Table
-pub mod Says
 pub mod Totals
 pub mod Choice

@@ -1,6 +1,6 @@
 -- The mode totals, counted over the one table. Definitions only.
 use Rattle.std.specs.Prelude.{ℕ, suc, Bool, cond, List, [], ◌∷◌}
-use Rattle.modes.specs.Facts.{is_off, is_phase, is_wave}
+use Rattle.modes.specs.Stage.{is_off, is_phase, is_wave}
 use Rattle.modes.specs.Table.{Row, modes}
 
 abbrev pub count : (Row → Bool) → List Row → ℕ

@@ -1,5 +1,6 @@
 // The modes by name: the number of each, in the order of `Mode`. The Rust's names in upper case, with `_`
-// before each later capital, as the C header has them behind `SHAPER_`.
+// before each later capital, as the C header has them behind `SHAPER_`. A mode is what C passes, any number, so they are
+// constants and no enum.
 ghost use Rattle.std.specs.Prelude.{◌≡◌};
 ghost use Rattle.modes.specs.Table.{numbers};
 

@@ -8,10 +8,11 @@ use lib.Dec.{ltb}
 use lib.ListN.{set}
 use lib.Ieee.{Float}
 use borrow.Author.Tests.{ltb-false}
-use Rattle.floats.specs.Steps.{when◌then◌else◌}
+use Rattle.std.specs.Prelude.{Option, Some as Given, None}
 use Rattle.reads.specs.declared.lists.ReadList.{ReadList}
 use Rattle.reads.specs.Reads.{start_of, push_of}
 use Rattle.phase.specs.declared.map.Slot.{Slot}
+use Rattle.phase.specs.declared.setting.MapSetting.{MapSetting}
 use Rattle.phase.specs.Map.{map_of, mapped, emptied, apply_of}
 use Rattle.phase.specs.Sums.{apply_if}
 use Rattle.phase.proofs.MapLaws.{map_by}
@@ -32,16 +33,16 @@ push_some r w g = record { some = go (ltb r.count 4) refl }
     go true e = omega arith
     go false e = let h = ltb-false r.count 4 e in omega (arith, h)
 
-module _ (sk ak table : List Float) (slot : Slot) (a h : Float) where
-  map_some : (w : ℕ) (g : Float) (r : ReadList) → Some (map_of sk ak table slot a h w g r)
-  map_some w g r = map_by Some g r (λ w. push_some r w g) (λ w k. push_some _ w k) (λ w k v l. push_some _ v l) sk ak table slot a h w
+module _ (sk ak table : List Float) where
+  map_some : (slot : Slot) (a h : Float) (w : ℕ) (g : Float) (r : ReadList) → Some (map_of sk ak table slot a h w g r)
+  map_some slot a h w g r = map_by Some g r (λ w. push_some r w g) (λ w k. push_some _ w k) (λ w k v l. push_some _ v l) sk ak table slot a h w
 
-  mapped_some : (ws : List ℕ) (gs : List Float) (r : ReadList) (n : ℕ) → 1 ≤ n → Some (mapped sk ak table slot a h ws gs r n)
+  mapped_some : (slot : Slot) (a h : Float) (ws : List ℕ) (gs : List Float) (r : ReadList) (n : ℕ) → 1 ≤ n → Some (mapped sk ak table slot a h ws gs r n)
   unfolding mapped
-  mapped_some ws gs r zero l = absurd (omega arith)
-  mapped_some ws gs r (suc n) l = map_some _ _ _
+  mapped_some slot a h ws gs r zero l = absurd (omega arith)
+  mapped_some slot a h ws gs r (suc n) l = map_some _ _ _ _ _ _
 
-  pub some_if : (on : Bool) (r : ReadList) → Some r → Some (apply_if on sk ak table slot a h r)
-  unfolding apply_if apply_of when◌then◌else◌
-  some_if true r p = mapped_some r.word r.gain (emptied r) r.count p.some
-  some_if false r p = p
+  pub some_if : (setting : Option MapSetting) (r : ReadList) → Some r → Some (apply_if sk ak table setting r)
+  unfolding apply_if apply_of
+  some_if None r p = p
+  some_if (Given m) r p = mapped_some m.slot m.amount m.half r.word r.gain (emptied r) r.count p.some

@@ -3,234 +3,177 @@ use Prim.Native.Nat.{ℕ}
 use mathlib.Core.Path.{◌≡◌, refl, sym, ap, ◌∙◌}
 use mathlib.Core.Bool.{Bool, true, false, not, ◌&&◌, true≢false}
 use mathlib.Core.List.{List}
-use lib.Dec.{eqb}
 use lib.ListN.{replicate}
 use lib.Ieee.{Float}
+use Rattle.std.specs.Prelude.{Option, Some, None}
 use Rattle.floats.specs.F32.{1f, ◌⊕◌, ◌⊗◌}
-use Rattle.floats.specs.Steps.{◌>>=◌, when◌then◌else◌}
+use Rattle.floats.specs.Steps.{when◌then◌else◌}
 use Rattle.reads.specs.declared.lists.ReadList.{ReadList}
+use Rattle.reads.specs.declared.branches.BranchKind.{BranchKind}
 use Rattle.reads.specs.declared.branches.Branches.{Branches}
 use Rattle.reads.specs.Reads.{start_of, empty_of, weighted_of, push_of, move_first, shift_of, outgoing_of, sum_to, read_sum}
-use Rattle.reads.specs.Branches.{appended, Makes}
-use Rattle.phase.specs.declared.map.Slot.{Slot}
+use Rattle.reads.specs.Branches.{is_one, is_both, appended_as, appended, Makes}
+use Rattle.phase.specs.declared.setting.MapSetting.{MapSetting}
 use Rattle.phase.specs.Map.{map_of, mapped, emptied, apply_of}
-use Rattle.phase.specs.Sums.{map_if, apply_if, shift_if, all_products, read_at, products_after, products_of, sum_one, sum_two}
+use Rattle.phase.specs.Sums.{map_if, apply_if, shift_if, sum_of, all_products, read_at, products_after, products_of, sum_one, sum_two}
 
--- the sum of a list as it goes out
-abbrev pub sum_of : List Float → Bool → ℕ → ReadList → Float
-sum_of cycle moves offset list = read_sum cycle (outgoing_of (shift_if moves offset list))
+and_true : (b : Bool) → (b && true) ≡ b
+and_true true = refl
+and_true false = refl
+
+and_false : (b : Bool) → (b && false) ≡ false
+and_false true = refl
+and_false false = refl
 
 -- no reads yet
 abbrev pub none : ℕ → Bool → ReadList
 none like plain = record { word = replicate 4 like; gain = replicate 4 1f; count = 0; weighted = not plain }
 
--- ---- branches by the tests of their kind, of 0 and of 2
-abbrev added : Bool → Bool → ℕ → Float → ℕ → Float → ReadList → ReadList
-added t₀ t₂ w g v k out = let one = push_of (when t₀ then out else weighted_of out) w g in when t₂ then push_of one v k else one
+abbrev after : List Float → Option ℕ → Bool → Branches → Float → Float
+after cycle offset both b first = when both then first ⊕ b.second.gain ⊗ read_at cycle offset b.second.word else first
 
-opened : (b : Branches) (out : ReadList) → appended b out ≡ added (eqb b.kind 0) (eqb b.kind 2) b.word0 b.gain0 b.word1 b.gain1 out
-unfolding appended ◌>>=◌
-opened b out = refl
+abbrev product : List Float → Option ℕ → Branches → Float
+product cycle offset b = b.first.gain ⊗ read_at cycle offset b.first.word
 
-abbrev after : List Float → Bool → ℕ → Bool → ℕ → Float → Float → Float
-after cycle moves offset t₂ v k first = when t₂ then first ⊕ k ⊗ read_at cycle moves offset v else first
+-- ---- one map's branches
+one_by : (every plain : Bool) (offset : Option ℕ) (k : BranchKind) (cycle : List Float) (like : ℕ) (b : Branches)
+    → sum_of every cycle (shift_if offset (appended_as k b (none like plain)))
+    ≡ (when (not every && plain) && is_one k then read_at cycle offset b.first.word else after cycle offset (is_both k) b (product cycle offset b))
+unfolding when◌then◌else◌ shift_if shift_of move_first push_of weighted_of appended_as outgoing_of sum_of all_products read_sum sum_to read_at
+one_by true plain None BranchKind.One cycle like b = refl
+one_by true plain None BranchKind.Weighted cycle like b = refl
+one_by true plain None BranchKind.Both cycle like b = refl
+one_by true plain (Some o) BranchKind.One cycle like b = refl
+one_by true plain (Some o) BranchKind.Weighted cycle like b = refl
+one_by true plain (Some o) BranchKind.Both cycle like b = refl
+one_by false true None BranchKind.One cycle like b = refl
+one_by false true None BranchKind.Weighted cycle like b = refl
+one_by false true None BranchKind.Both cycle like b = refl
+one_by false true (Some o) BranchKind.One cycle like b = refl
+one_by false true (Some o) BranchKind.Weighted cycle like b = refl
+one_by false true (Some o) BranchKind.Both cycle like b = refl
+one_by false false None BranchKind.One cycle like b = refl
+one_by false false None BranchKind.Weighted cycle like b = refl
+one_by false false None BranchKind.Both cycle like b = refl
+one_by false false (Some o) BranchKind.One cycle like b = refl
+one_by false false (Some o) BranchKind.Weighted cycle like b = refl
+one_by false false (Some o) BranchKind.Both cycle like b = refl
 
-one_by : (cycle : List Float) (moves : Bool) (offset like : ℕ) (plain t₀ t₂ : Bool) (w : ℕ) (g : Float) (v : ℕ) (k : Float)
-    → sum_of cycle moves offset (added t₀ t₂ w g v k (none like plain))
-    ≡ (when plain && t₀ then read_at cycle moves offset w else after cycle moves offset t₂ v k (g ⊗ read_at cycle moves offset w))
-unfolding when◌then◌else◌ shift_if shift_of move_first push_of weighted_of outgoing_of read_sum sum_to read_at
-one_by cycle true offset like true true true w g v k = refl
-one_by cycle true offset like true true false w g v k = refl
-one_by cycle true offset like true false true w g v k = refl
-one_by cycle true offset like true false false w g v k = refl
-one_by cycle true offset like false true true w g v k = refl
-one_by cycle true offset like false true false w g v k = refl
-one_by cycle true offset like false false true w g v k = refl
-one_by cycle true offset like false false false w g v k = refl
-one_by cycle false offset like true true true w g v k = refl
-one_by cycle false offset like true true false w g v k = refl
-one_by cycle false offset like true false true w g v k = refl
-one_by cycle false offset like true false false w g v k = refl
-one_by cycle false offset like false true true w g v k = refl
-one_by cycle false offset like false true false w g v k = refl
-one_by cycle false offset like false false true w g v k = refl
-one_by cycle false offset like false false false w g v k = refl
+pub one_sum : (every plain : Bool) (offset : Option ℕ) (cycle : List Float) (like : ℕ) (b : Branches)
+    → sum_of every cycle (shift_if offset (appended b (none like plain))) ≡ sum_one cycle offset (not every && plain) b
+unfolding appended sum_one products_of products_after
+one_sum every plain offset cycle like b = one_by every plain offset b.kind cycle like b
 
-pub one_sum : (cycle : List Float) (moves : Bool) (offset like : ℕ) (plain : Bool) (b : Branches)
-    → sum_of cycle moves offset (appended b (none like plain)) ≡ sum_one cycle moves offset plain b
-unfolding sum_one products_of products_after
-one_sum cycle moves offset like plain b = rw (opened b (none like plain)) (one_by cycle moves offset like plain (eqb b.kind 0) (eqb b.kind 2) b.word0 b.gain0 b.word1 b.gain1)
+-- ---- the branches of two, appended to a list whose gains count
+abbrev onto : Bool → Branches → ReadList → ReadList
+onto both b out = when both then push_of (push_of out b.first.word b.first.gain) b.second.word b.second.gain else push_of out b.first.word b.first.gain
 
--- ---- branches appended to a list whose gains count
-abbrev onto : Bool → ℕ → Float → ℕ → Float → ReadList → ReadList
-onto t₂ w g v k out = when t₂ then push_of (push_of out w g) v k else push_of out w g
-
-counted : (t₀ t₂ : Bool) (w : ℕ) (g : Float) (v : ℕ) (k : Float) (out : ReadList) → weighted_of out ≡ out → added t₀ t₂ w g v k out ≡ onto t₂ w g v k out
-unfolding when◌then◌else◌
-counted true t₂ w g v k out e = refl
-counted false t₂ w g v k out e = rw e
-
-opened_counted : (b : Branches) (out : ReadList) → weighted_of out ≡ out → appended b out ≡ onto (eqb b.kind 2) b.word0 b.gain0 b.word1 b.gain1 out
-opened_counted b out e = opened b out ∙ counted (eqb b.kind 0) (eqb b.kind 2) b.word0 b.gain0 b.word1 b.gain1 out e
+counted : (k : BranchKind) (b : Branches) (out : ReadList) → weighted_of out ≡ out → appended_as k b out ≡ onto (is_both k) b out
+unfolding when◌then◌else◌ appended_as
+counted BranchKind.One b out e = refl
+counted BranchKind.Weighted b out e = rw e
+counted BranchKind.Both b out e = rw e
 
 none_counted : (like : ℕ) → weighted_of (none like false) ≡ none like false
 unfolding weighted_of
 none_counted like = refl
 
-onto_counted : (like : ℕ) (t₂ : Bool) (w : ℕ) (g : Float) (v : ℕ) (k : Float) → weighted_of (onto t₂ w g v k (none like false)) ≡ onto t₂ w g v k (none like false)
+onto_counted : (both : Bool) (like : ℕ) (b : Branches) → weighted_of (onto both b (none like false)) ≡ onto both b (none like false)
 unfolding when◌then◌else◌ weighted_of push_of
-onto_counted like true w g v k = refl
-onto_counted like false w g v k = refl
+onto_counted true like b = refl
+onto_counted false like b = refl
 
-two_by : (cycle : List Float) (moves : Bool) (offset like : ℕ) (s₂ t₂ : Bool) (w : ℕ) (g : Float) (v : ℕ) (k : Float) (w' : ℕ) (g' : Float) (v' : ℕ) (k' : Float)
-    → sum_of cycle moves offset (onto t₂ w' g' v' k' (onto s₂ w g v k (none like false)))
-    ≡ after cycle moves offset t₂ v' k' (after cycle moves offset s₂ v k (g ⊗ read_at cycle moves offset w) ⊕ g' ⊗ read_at cycle moves offset w')
-unfolding when◌then◌else◌ shift_if shift_of move_first push_of outgoing_of read_sum sum_to read_at
-two_by cycle true offset like true true w g v k w' g' v' k' = refl
-two_by cycle true offset like true false w g v k w' g' v' k' = refl
-two_by cycle true offset like false true w g v k w' g' v' k' = refl
-two_by cycle true offset like false false w g v k w' g' v' k' = refl
-two_by cycle false offset like true true w g v k w' g' v' k' = refl
-two_by cycle false offset like true false w g v k w' g' v' k' = refl
-two_by cycle false offset like false true w g v k w' g' v' k' = refl
-two_by cycle false offset like false false w g v k w' g' v' k' = refl
+two_by : (every : Bool) (offset : Option ℕ) (j k : Bool) (cycle : List Float) (like : ℕ) (a b : Branches)
+    → sum_of every cycle (shift_if offset (onto k b (onto j a (none like false))))
+    ≡ after cycle offset k b (after cycle offset j a (product cycle offset a) ⊕ product cycle offset b)
+unfolding when◌then◌else◌ shift_if shift_of move_first push_of outgoing_of sum_of all_products read_sum sum_to read_at
+two_by true None true true cycle like a b = refl
+two_by true None true false cycle like a b = refl
+two_by true None false true cycle like a b = refl
+two_by true None false false cycle like a b = refl
+two_by true (Some o) true true cycle like a b = refl
+two_by true (Some o) true false cycle like a b = refl
+two_by true (Some o) false true cycle like a b = refl
+two_by true (Some o) false false cycle like a b = refl
+two_by false None true true cycle like a b = refl
+two_by false None true false cycle like a b = refl
+two_by false None false true cycle like a b = refl
+two_by false None false false cycle like a b = refl
+two_by false (Some o) true true cycle like a b = refl
+two_by false (Some o) true false cycle like a b = refl
+two_by false (Some o) false true cycle like a b = refl
+two_by false (Some o) false false cycle like a b = refl
 
-pub two_sum : (cycle : List Float) (moves : Bool) (offset like : ℕ) (a b : Branches)
-    → sum_of cycle moves offset (appended b (appended a (none like false))) ≡ sum_two cycle moves offset a b
-unfolding sum_two products_of products_after
-two_sum cycle moves offset like a b =
-    rw (opened_counted a (none like false) (none_counted like), opened_counted b _ (onto_counted like (eqb a.kind 2) a.word0 a.gain0 a.word1 a.gain1))
-    (two_by cycle moves offset like (eqb a.kind 2) (eqb b.kind 2) a.word0 a.gain0 a.word1 a.gain1 b.word0 b.gain0 b.word1 b.gain1)
+pub two_sum : (every : Bool) (offset : Option ℕ) (cycle : List Float) (like : ℕ) (a b : Branches)
+    → sum_of every cycle (shift_if offset (appended b (appended a (none like false)))) ≡ sum_two cycle offset a b
+unfolding appended sum_two products_of products_after
+two_sum every offset cycle like a b =
+    rw (counted a.kind a (none like false) (none_counted like), counted b.kind b _ (onto_counted (is_both a.kind) like a))
+    (two_by every offset (is_both a.kind) (is_both b.kind) cycle like a b)
 
--- ---- a slot's map on a list that branches were appended to
-module _ (sk ak table : List Float) (slot : Slot) (a h : Float) where
-  -- on the one read at `word`
-  started_by : (on : Bool) (word : ℕ) → apply_if on sk ak table slot a h (start_of word) ≡ map_if on sk ak table slot a h word (none word true)
-  unfolding when◌then◌else◌ apply_if map_if apply_of mapped emptied empty_of start_of push_of
-  started_by true word = refl
-  started_by false word = refl
+-- ---- a slot's map on the branches of one read
+module _ (sk ak table : List Float) where
+  abbrev made : MapSetting → ℕ → Float → ReadList → ReadList
+  made m w g out = map_of sk ak table m.slot m.amount m.half w g out
 
-  pub started : (on : Bool) (word : ℕ) (b : Branches) → Makes b (map_if on sk ak table slot a h word) → apply_if on sk ak table slot a h (start_of word) ≡ appended b (none word true)
-  started on word b m = started_by on word ∙ sym (m (none word true))
+  abbrev applied : MapSetting → ReadList → ReadList
+  applied m list = apply_of sk ak table m.slot m.amount m.half list
 
-  one_mapped : (t₀ : Bool) (like w : ℕ) (g : Float) (v : ℕ) (k : Float) → apply_of sk ak table slot a h (added t₀ false w g v k (none like true)) ≡ map_of sk ak table slot a h w g (none w t₀)
-  unfolding when◌then◌else◌ apply_of mapped emptied empty_of push_of weighted_of
-  one_mapped true like w g v k = refl
-  one_mapped false like w g v k = refl
+  started_by : (setting : Option MapSetting) (word : ℕ) → apply_if sk ak table setting (start_of word) ≡ map_if sk ak table setting word (none word true)
+  unfolding apply_if map_if apply_of mapped emptied empty_of start_of push_of
+  started_by None word = refl
+  started_by (Some m) word = refl
 
-  -- on one read
-  pub applied_one : (like : ℕ) (b first : Branches) → eqb b.kind 2 ≡ false → Makes first (map_of sk ak table slot a h b.word0 b.gain0)
-      → apply_of sk ak table slot a h (appended b (none like true)) ≡ appended first (none b.word0 (eqb b.kind 0))
-  applied_one like b first e m =
-      rw (opened b (none like true), e) (one_mapped (eqb b.kind 0) like b.word0 b.gain0 b.word1 b.gain1) ∙ sym (m (none b.word0 (eqb b.kind 0)))
+  started : (setting : Option MapSetting) (word : ℕ) (b : Branches) → Makes b (map_if sk ak table setting word) → apply_if sk ak table setting (start_of word) ≡ appended b (none word true)
+  started setting word b e = started_by setting word ∙ sym (e (none word true))
 
-  two_mapped : (like w : ℕ) (g : Float) (v : ℕ) (k : Float)
-      → apply_of sk ak table slot a h (added false true w g v k (none like true)) ≡ map_of sk ak table slot a h v k (map_of sk ak table slot a h w g (none w false))
-  unfolding when◌then◌else◌ apply_of mapped emptied empty_of push_of weighted_of
-  two_mapped like w g v k = refl
+  one_mapped : (k : BranchKind) (m : MapSetting) (like : ℕ) (b : Branches) → is_both k ≡ false → applied m (appended_as k b (none like true)) ≡ made m b.first.word b.first.gain (none b.first.word (is_one k))
+  unfolding appended_as apply_of mapped emptied empty_of push_of weighted_of
+  one_mapped BranchKind.One m like b e = refl
+  one_mapped BranchKind.Weighted m like b e = refl
+  one_mapped BranchKind.Both m like b e = absurd (true≢false e)
 
-  -- on two
-  pub applied_two : (like : ℕ) (b first second : Branches) → b.kind ≡ 2
-      → Makes first (map_of sk ak table slot a h b.word0 b.gain0) → Makes second (map_of sk ak table slot a h b.word1 b.gain1)
-      → apply_of sk ak table slot a h (appended b (none like true)) ≡ appended second (appended first (none b.word0 false))
-  applied_two like b first second e m n =
-      rw (opened b (none like true), e, n, m) (two_mapped like b.word0 b.gain0 b.word1 b.gain1)
+  two_mapped : (k : BranchKind) (m : MapSetting) (like : ℕ) (b : Branches) → k ≡ BranchKind.Both
+      → applied m (appended_as k b (none like true)) ≡ made m b.second.word b.second.gain (made m b.first.word b.first.gain (none b.first.word false))
+  unfolding appended_as apply_of mapped emptied empty_of push_of weighted_of
+  two_mapped k m like b e = rw e
 
--- ---- the sum of the list that slot 1 and then slot 0 make of the read at `word`, by what slot 1 makes of it
-module _ (cycle : List Float) (moves : Bool) (offset : ℕ) (sk ak table : List Float) (slot0 : Slot) (a0 h0 : Float) (on1 : Bool) (slot1 : Slot) (a1 h1 : Float) (word : ℕ) where
-  abbrev sum : Bool → Float
-  sum on0 = sum_of cycle moves offset (apply_if on0 sk ak table slot0 a0 h0 (apply_if on1 sk ak table slot1 a1 h1 (start_of word)))
+  -- the sum of the list that slot 1 and then slot 0 make of the read at `word`, by what slot 1 makes of it
+  module _ (every : Bool) (cycle : List Float) (offset : Option ℕ) (setting1 : Option MapSetting) (word : ℕ) (reads : Branches) (e : Makes reads (map_if sk ak table setting1 word)) where
+    abbrev pub sum : Option MapSetting → Float
+    sum setting0 = sum_of every cycle (shift_if offset (apply_if sk ak table setting0 (apply_if sk ak table setting1 (start_of word))))
 
-  -- slot 0 is off
-  pub sum_off : (on0 : Bool) (reads : Branches) → not on0 ≡ true → Makes reads (map_if on1 sk ak table slot1 a1 h1 word) → sum_one cycle moves offset true reads ≡ sum on0
-  unfolding apply_if when◌then◌else◌
-  sum_off true reads e m = absurd (true≢false (sym e))
-  sum_off false reads e m = sym (ap (sum_of cycle moves offset) (started sk ak table slot1 a1 h1 on1 word reads m) ∙ one_sum cycle moves offset word true reads)
+    -- slot 0 has no map
+    pub sum_off : sum_one cycle offset (not every) reads ≡ sum None
+    unfolding apply_if
+    sum_off =
+        rw (← and_true (not every))
+        (sym (ap (λ (list : ReadList). sum_of every cycle (shift_if offset list)) (started setting1 word reads e) ∙ one_sum every true offset cycle word reads))
 
-  -- slot 1 makes one read
-  pub sum_one_lem : (on0 : Bool) (reads first : Branches) → not on0 ≡ false → eqb reads.kind 2 ≡ false
-      → Makes reads (map_if on1 sk ak table slot1 a1 h1 word) → Makes first (map_of sk ak table slot0 a0 h0 reads.word0 reads.gain0)
-      → sum_one cycle moves offset (eqb reads.kind 0) first ≡ sum on0
-  unfolding apply_if when◌then◌else◌
-  sum_one_lem true reads first e k m n =
-      sym
-      (ap (λ (list : ReadList). sum_of cycle moves offset (apply_of sk ak table slot0 a0 h0 list)) (started sk ak table slot1 a1 h1 on1 word reads m)
-      ∙ ap (sum_of cycle moves offset) (applied_one sk ak table slot0 a0 h0 word reads first k n)
-      ∙ one_sum cycle moves offset reads.word0 (eqb reads.kind 0) first)
-  sum_one_lem false reads first e k m n = absurd (true≢false e)
+    -- slot 1 makes one read
+    sum_one_lem : (m : MapSetting) (first : Branches) → is_both reads.kind ≡ false → Makes first (made m reads.first.word reads.first.gain)
+        → sum_one cycle offset (not every && is_one reads.kind) first ≡ sum (Some m)
+    unfolding apply_if appended
+    sum_one_lem m first k f =
+        sym
+        (ap (λ (list : ReadList). sum_of every cycle (shift_if offset (applied m list))) (started setting1 word reads e)
+        ∙ ap (λ (list : ReadList). sum_of every cycle (shift_if offset list)) (one_mapped reads.kind m word reads k ∙ sym (f (none reads.first.word (is_one reads.kind))))
+        ∙ one_sum every (is_one reads.kind) offset cycle reads.first.word first)
 
-  -- slot 1 makes two
-  pub sum_two_lem : (on0 : Bool) (reads first second : Branches) → not on0 ≡ false → reads.kind ≡ 2
-      → Makes reads (map_if on1 sk ak table slot1 a1 h1 word)
-      → Makes first (map_of sk ak table slot0 a0 h0 reads.word0 reads.gain0) → Makes second (map_of sk ak table slot0 a0 h0 reads.word1 reads.gain1)
-      → sum_two cycle moves offset first second ≡ sum on0
-  unfolding apply_if when◌then◌else◌
-  sum_two_lem true reads first second e k m n p =
-      sym
-      (ap (λ (list : ReadList). sum_of cycle moves offset (apply_of sk ak table slot0 a0 h0 list)) (started sk ak table slot1 a1 h1 on1 word reads m)
-      ∙ ap (sum_of cycle moves offset) (applied_two sk ak table slot0 a0 h0 word reads first second k n p)
-      ∙ two_sum cycle moves offset reads.word0 first second)
-  sum_two_lem false reads first second e k m n p = absurd (true≢false e)
+    pub sum_plain : (m : MapSetting) (first : Branches) → reads.kind ≡ BranchKind.One → Makes first (made m reads.first.word reads.first.gain) → sum_one cycle offset (not every) first ≡ sum (Some m)
+    sum_plain m first k f = rw (k, and_true) at (sum_one_lem m first (ap is_both k) f)
 
--- ---- all products: the same, by the branches, of reads that don't move
-all_by : (cycle : List Float) (like : ℕ) (plain t₀ t₂ : Bool) (w : ℕ) (g : Float) (v : ℕ) (k : Float)
-    → all_products cycle (added t₀ t₂ w g v k (none like plain)) ≡ after cycle false 0 t₂ v k (g ⊗ read_at cycle false 0 w)
-unfolding when◌then◌else◌ push_of weighted_of all_products sum_to read_at
-all_by cycle like plain true true w g v k = refl
-all_by cycle like plain true false w g v k = refl
-all_by cycle like plain false true w g v k = refl
-all_by cycle like plain false false w g v k = refl
+    pub sum_weighted : (m : MapSetting) (first : Branches) → reads.kind ≡ BranchKind.Weighted → Makes first (made m reads.first.word reads.first.gain) → products_of cycle offset first ≡ sum (Some m)
+    unfolding sum_one when◌then◌else◌
+    sum_weighted m first k f = rw (k, and_false) at (sum_one_lem m first (ap is_both k) f)
 
-one_products : (cycle : List Float) (like : ℕ) (plain : Bool) (b : Branches) → all_products cycle (appended b (none like plain)) ≡ products_of cycle false 0 b
-unfolding products_of products_after
-one_products cycle like plain b = rw (opened b (none like plain)) (all_by cycle like plain (eqb b.kind 0) (eqb b.kind 2) b.word0 b.gain0 b.word1 b.gain1)
-
-all_two_by : (cycle : List Float) (like : ℕ) (s₂ t₂ : Bool) (w : ℕ) (g : Float) (v : ℕ) (k : Float) (w' : ℕ) (g' : Float) (v' : ℕ) (k' : Float)
-    → all_products cycle (onto t₂ w' g' v' k' (onto s₂ w g v k (none like false)))
-    ≡ after cycle false 0 t₂ v' k' (after cycle false 0 s₂ v k (g ⊗ read_at cycle false 0 w) ⊕ g' ⊗ read_at cycle false 0 w')
-unfolding when◌then◌else◌ push_of all_products sum_to read_at
-all_two_by cycle like true true w g v k w' g' v' k' = refl
-all_two_by cycle like true false w g v k w' g' v' k' = refl
-all_two_by cycle like false true w g v k w' g' v' k' = refl
-all_two_by cycle like false false w g v k w' g' v' k' = refl
-
-two_products : (cycle : List Float) (like : ℕ) (a b : Branches) → all_products cycle (appended b (appended a (none like false))) ≡ sum_two cycle false 0 a b
-unfolding sum_two products_of products_after
-two_products cycle like a b =
-    rw (opened_counted a (none like false) (none_counted like), opened_counted b _ (onto_counted like (eqb a.kind 2) a.word0 a.gain0 a.word1 a.gain1))
-    (all_two_by cycle like (eqb a.kind 2) (eqb b.kind 2) a.word0 a.gain0 a.word1 a.gain1 b.word0 b.gain0 b.word1 b.gain1)
-
-module _ (cycle sk ak table : List Float) (slot0 : Slot) (a0 h0 : Float) (on1 : Bool) (slot1 : Slot) (a1 h1 : Float) (word : ℕ) where
-  abbrev every : Bool → Float
-  every on0 = all_products cycle (apply_if on0 sk ak table slot0 a0 h0 (apply_if on1 sk ak table slot1 a1 h1 (start_of word)))
-
-  -- slot 0 is off
-  pub every_off : (on0 : Bool) (reads : Branches) → not on0 ≡ true → Makes reads (map_if on1 sk ak table slot1 a1 h1 word) → products_of cycle false 0 reads ≡ every on0
-  unfolding apply_if when◌then◌else◌
-  every_off true reads e m = absurd (true≢false (sym e))
-  every_off false reads e m = sym (ap (all_products cycle) (started sk ak table slot1 a1 h1 on1 word reads m) ∙ one_products cycle word true reads)
-
-  -- slot 1 makes one read
-  pub every_one : (on0 : Bool) (reads first : Branches) → not on0 ≡ false → eqb reads.kind 2 ≡ false
-      → Makes reads (map_if on1 sk ak table slot1 a1 h1 word) → Makes first (map_of sk ak table slot0 a0 h0 reads.word0 reads.gain0)
-      → products_of cycle false 0 first ≡ every on0
-  unfolding apply_if when◌then◌else◌
-  every_one true reads first e k m n =
-      sym
-      (ap (λ (list : ReadList). all_products cycle (apply_of sk ak table slot0 a0 h0 list)) (started sk ak table slot1 a1 h1 on1 word reads m)
-      ∙ ap (all_products cycle) (applied_one sk ak table slot0 a0 h0 word reads first k n)
-      ∙ one_products cycle reads.word0 (eqb reads.kind 0) first)
-  every_one false reads first e k m n = absurd (true≢false e)
-
-  -- slot 1 makes two
-  pub every_two : (on0 : Bool) (reads first second : Branches) → not on0 ≡ false → reads.kind ≡ 2
-      → Makes reads (map_if on1 sk ak table slot1 a1 h1 word)
-      → Makes first (map_of sk ak table slot0 a0 h0 reads.word0 reads.gain0) → Makes second (map_of sk ak table slot0 a0 h0 reads.word1 reads.gain1)
-      → sum_two cycle false 0 first second ≡ every on0
-  unfolding apply_if when◌then◌else◌
-  every_two true reads first second e k m n p =
-      sym
-      (ap (λ (list : ReadList). all_products cycle (apply_of sk ak table slot0 a0 h0 list)) (started sk ak table slot1 a1 h1 on1 word reads m)
-      ∙ ap (all_products cycle) (applied_two sk ak table slot0 a0 h0 word reads first second k n p)
-      ∙ two_products cycle reads.word0 first second)
-  every_two false reads first second e k m n p = absurd (true≢false e)
+    -- slot 1 makes two
+    pub sum_two_lem : (m : MapSetting) (first second : Branches) → reads.kind ≡ BranchKind.Both
+        → Makes first (made m reads.first.word reads.first.gain) → Makes second (made m reads.second.word reads.second.gain)
+        → sum_two cycle offset first second ≡ sum (Some m)
+    unfolding apply_if appended
+    sum_two_lem m first second k f s =
+        sym
+        (ap (λ (list : ReadList). sum_of every cycle (shift_if offset (applied m list))) (started setting1 word reads e)
+        ∙ ap (λ (list : ReadList). sum_of every cycle (shift_if offset list)) (two_mapped reads.kind m word reads k ∙ rw (s, f))
+        ∙ two_sum every offset cycle reads.first.word first second)

@@ -4,3 +4,4 @@ pub mod Quantise
 pub mod Map
 pub mod Sums
 pub mod Power
+pub mod Setting

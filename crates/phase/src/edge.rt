@@ -1,8 +1,9 @@
 // What the maps have in common: the running phase, edges without aliasing, the lean map's offset and the
 // drawn curve.
-ghost use Rattle.std.specs.Prelude.{◌≡◌, ◌<◌, length};
+ghost use Rattle.std.specs.Prelude.{◌≡◌};
 ghost use Rattle.phase.specs.Edge.{unit_of, wrap_of, edge_step, smooth_box, lean_offset, remap_of};
 
+use curve::Curve;
 use floats::floor;
 use lanes::{Numbers, atan, clamp, cos_cycles, lookup, signed, sin_cycles, smoothstep};
 
@@ -23,6 +24,7 @@ pub fn unit(word: u32) -> f32
 }
 
 // `x` wrapped to -1/2 to 1/2.
+#[tactic(auto, unfolding(crate::specs::Edge::wrap_of), using(floats::specs::Steps::steps))]
 pub fn wrap(x: f32) -> f32
     ensures { result ≡ wrap_of x }
 {
@@ -30,6 +32,7 @@ pub fn wrap(x: f32) -> f32
 }
 
 // The step across an edge at 0, smoothed `half` cycles either side.
+#[tactic(auto, unfolding(crate::specs::Edge::edge_step), using(floats::specs::Steps::steps))]
 fn edge_step(half: f32, x: f32) -> f32
     ensures { result ≡ edge_step half x }
 {
@@ -39,6 +42,7 @@ fn edge_step(half: f32, x: f32) -> f32
 
 // A box of half-length `extent` centred on 0, repeating every cycle, its edges smoothed `half`
 // cycles either side, at `v` cycles from its centre.
+#[tactic(auto, unfolding(crate::specs::Edge::smooth_box), using(floats::specs::Steps::steps))]
 pub fn smooth_box(v: f32, extent: f32, half: f32) -> f32
     ensures { result ≡ smooth_box v extent half }
 {
@@ -51,6 +55,7 @@ pub fn smooth_box(v: f32, extent: f32, half: f32) -> f32
 }
 
 // The lean map's offset at `x` cycles, for strength `beta` (|β| < 2).
+#[tactic(auto, unfolding(crate::specs::Edge::lean_offset), using(floats::specs::Steps::steps))]
 pub fn lean_offset(numbers: Numbers, x: f32, beta: f32) -> f32
     ensures { result ≡ lean_offset numbers.sin numbers.atan x beta }
 {
@@ -61,10 +66,10 @@ pub fn lean_offset(numbers: Numbers, x: f32, beta: f32) -> f32
 }
 
 // The drawn curve blended from identity by `a`, at `x` (0 to 1).
-pub fn remap(curve: &[f32], a: f32, x: f32) -> f32
-    requires { 1024 < length curve.now }
-    ensures { result ≡ remap_of curve.now a x }
+#[tactic(auto, unfolding(crate::specs::Edge::remap_of), using(floats::specs::Steps::steps))]
+pub fn remap(curve: Curve<'_>, a: f32, x: f32) -> f32
+    ensures { result ≡ remap_of curve.entry.values.now a x }
 {
-    let y = lookup(curve, x);
+    let y = lookup(curve.values, x);
     (y - x) * a + x
 }

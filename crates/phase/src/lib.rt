@@ -5,8 +5,10 @@ pub mod edge;
 pub mod map;
 pub mod power;
 pub mod quantise;
+pub mod setting;
 pub mod sums;
 
-pub use map::{Slot, apply, apply_with};
+pub use map::{Slot, apply};
 pub use power::map_power;
-pub use sums::{mapped_products, mapped_sum};
+pub use setting::{MapSetting, Tables};
+pub use sums::{Reading, mapped_sum};

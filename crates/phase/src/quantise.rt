@@ -8,7 +8,7 @@ ghost use Rattle.phase.specs.Power.{step_count};
 
 use floats::{abs, floor};
 use lanes::{above, clamp, min, pick, signed, smoothstep, to_word};
-use reads::Branches;
+use reads::{Branches, Read};
 
 // f32::MAX.
 const MAX: f32 = 3.4028235e38;
@@ -40,6 +40,7 @@ pub struct Edge {
     pub target: f32,
 }
 
+#[tactic(auto, unfolding(crate::specs::Quantise::steps_of), using(floats::specs::Steps::steps))]
 fn steps_of(steps: f32, a: f32, half: f32) -> Steps
     requires { steps ≡ step_count a }
     ensures { result ≡ steps_of a half }
@@ -56,6 +57,7 @@ fn steps_of(steps: f32, a: f32, half: f32) -> Steps
 }
 
 // The last step: the cycle ends inside it unless `steps` is whole.
+#[tactic(auto, unfolding(crate::specs::Quantise::line_of), using(floats::specs::Steps::steps))]
 fn line_of(steps: f32, x: f32) -> Line
     ensures { result ≡ line_of steps x }
 {
@@ -90,20 +92,22 @@ fn edge_of(steps: f32, step: f32, word: u32) -> Edge
 }
 
 // A held read moved toward the running phase, as a word.
+#[tactic(auto, unfolding(crate::specs::Quantise::branch_of), using(floats::specs::Steps::steps))]
 fn branch(target: f32, toward: f32, at: f32) -> u32
     ensures { result ≡ branch_of target toward at }
 {
     to_word((target - at) * toward + at)
 }
 
-pub fn quantise(steps: f32, a: f32, half: f32, word: u32, gain: f32) -> Branches
+#[tactic(auto, unfolding(crate::specs::Quantise::quantise_of), using(floats::specs::Steps::steps))]
+pub fn quantise(steps: f32, a: f32, half: f32, read: Read) -> Branches
     requires { steps ≡ step_count a }
-    ensures { Makes result (quantise_of a half word gain) }
+    ensures { Makes result (quantise_of a half read.word read.gain) }
 {
     let s = steps_of(steps, a, half);
-    let e = edge_of(s.steps, s.step, word);
+    let e = edge_of(s.steps, s.step, read.word);
     let left = branch(e.target, s.toward, e.left);
     let right = branch(e.target, s.toward, e.right);
     let weight = smoothstep((e.distance + s.half) / (2.0 * s.half));
-    Branches::pair(right, weight, left, gain)
+    Branches::pair(right, weight, left, read.gain)
 }

@@ -1,201 +1,111 @@
 // What the reads that two slots make of one add up to, with no list between: a run that asks for the
-// sum alone keeps slot 1's one or two reads, and slot 0's one or two of each, in registers. The reads
-// move on by `offset` words, if `moves`.
-ghost use Rattle.std.specs.Prelude.{◌≡◌, ◌<◌, ◌≤◌, length, true};
-ghost use Rattle.reads.specs.Reads.{start_of, outgoing_of, read_sum};
+// sum alone keeps slot 1's one or two reads, and slot 0's one or two of each, in registers.
+ghost use Rattle.std.specs.Prelude.{◌≡◌, None};
+ghost use Rattle.reads.specs.Reads.{start_of};
 ghost use Rattle.reads.specs.Branches.{Makes};
-ghost use Rattle.phase.specs.Power.{map_power};
-ghost use Rattle.phase.specs.Sums.{read_at, products_after, products_of, sum_one, sum_two, map_if, apply_if, shift_if, all_products};
+ghost use Rattle.phase.specs.Sums.{read_at, products_after, products_of, sum_one, sum_two, map_if, apply_if, shift_if, sum_of, all_products};
 
-use crate::map::{Slot, map};
-use lanes::{Numbers, add_words};
-use reads::{Branches, KIND_BOTH, KIND_ONE, read_cycle};
+use crate::map::map;
+use crate::setting::{MapSetting, Tables};
+use lanes::add_words;
+use reads::{BranchKind, Branches, Cycle, Read};
 
-fn read_at(cycle: &[f32], moves: bool, offset: u32, word: u32) -> f32
-    requires { 2048 ≤ length cycle.now }
-    ensures { result ≡ read_at cycle.now moves offset word }
-{
-    if moves {
-        return read_cycle(cycle, add_words(word, offset));
+// The cycle that is read, and by how many words the reads move on, if they do.
+#[derive(Clone, Copy)]
+pub struct Reading<'a> {
+    pub cycle: Cycle<'a>,
+    pub offset: Option<u32>,
+}
+
+impl<'a> Reading<'a> {
+    #[tactic(auto, unfolding(crate::specs::Sums::read_at))]
+    fn at(self, word: u32) -> f32
+        ensures { result ≡ read_at self.entry.cycle.samples.now self.entry.offset word }
+    {
+        match self.offset {
+            Some(offset) => self.cycle.read(add_words(word, offset)),
+            None => self.cycle.read(word),
+        }
     }
-    read_cycle(cycle, word)
-}
 
-// The second read's product, if there is one, added to `first`.
-fn products_after(cycle: &[f32], moves: bool, offset: u32, b: Branches, first: f32) -> f32
-    requires { 2048 ≤ length cycle.now }
-    ensures { result ≡ products_after cycle.now moves offset b first }
-{
-    if b.kind == KIND_BOTH {
-        return first + b.gain1 * read_at(cycle, moves, offset, b.word1);
+    // The second read's product, if there is one, added to `first`.
+    #[tactic(auto, unfolding(crate::specs::Sums::products_after), using(floats::specs::Steps::by_taken, floats::specs::Steps::by_left))]
+    fn products_after(self, b: Branches, first: f32) -> f32
+        ensures { result ≡ products_after self.entry.cycle.samples.now self.entry.offset b first }
+    {
+        match b.kind {
+            BranchKind::Both => first + b.second.gain * self.at(b.second.word),
+            _ => first,
+        }
     }
-    first
-}
 
-// The products of a map's reads.
-fn products(cycle: &[f32], moves: bool, offset: u32, b: Branches) -> f32
-    requires { 2048 ≤ length cycle.now }
-    ensures { result ≡ products_of cycle.now moves offset b }
-{
-    let first = b.gain0 * read_at(cycle, moves, offset, b.word0);
-    products_after(cycle, moves, offset, b, first)
-}
-
-// The reads of one map; the gains don't count if the read that it was given is `plain` and it makes one
-// with no gain of its own.
-fn sum_one(cycle: &[f32], moves: bool, offset: u32, plain: bool, b: Branches) -> f32
-    requires { 2048 ≤ length cycle.now }
-    ensures { result ≡ sum_one cycle.now moves offset plain b }
-{
-    if plain & (b.kind == KIND_ONE) {
-        return read_at(cycle, moves, offset, b.word0);
+    // The products of a map's reads.
+    #[tactic(auto, unfolding(crate::specs::Sums::products_of))]
+    fn products(self, b: Branches) -> f32
+        ensures { result ≡ products_of self.entry.cycle.samples.now self.entry.offset b }
+    {
+        self.products_after(b, b.first.gain * self.at(b.first.word))
     }
-    products(cycle, moves, offset, b)
-}
 
-// The reads of two maps, those of `a` first.
-fn sum_two(cycle: &[f32], moves: bool, offset: u32, a: Branches, b: Branches) -> f32
-    requires { 2048 ≤ length cycle.now }
-    ensures { result ≡ sum_two cycle.now moves offset a b }
-{
-    let sum = products(cycle, moves, offset, a);
-    let next = sum + b.gain0 * read_at(cycle, moves, offset, b.word0);
-    products_after(cycle, moves, offset, b, next)
-}
-
-// What a slot makes of the one read at `word`, if it is on.
-fn map_if(
-    numbers: Numbers,
-    curve: &[f32],
-    on: bool,
-    slot: Slot,
-    amount: f32,
-    power: f32,
-    half: f32,
-    word: u32,
-) -> Branches
-    requires fact_1 { (on ≡ true → power ≡ map_power slot.mode amount) }
-    requires fact_2 { 1024 < length curve.now }
-    ensures { Makes result (map_if on numbers.sin numbers.atan curve.now slot amount half word) }
-{
-    if on {
-        return map(numbers, curve, slot, amount, power, half, word, 1.0);
+    // The reads of one map; the gains don't count if the read that it was given is `plain` and it makes
+    // one with no gain of its own.
+    #[tactic(auto, unfolding(crate::specs::Sums::sum_one), using(floats::specs::Steps::by_taken, floats::specs::Steps::by_left))]
+    fn sum_one(self, plain: bool, b: Branches) -> f32
+        ensures { result ≡ sum_one self.entry.cycle.samples.now self.entry.offset plain b }
+    {
+        if plain && b.kind == BranchKind::One {
+            return self.at(b.first.word);
+        }
+        self.products(b)
     }
-    Branches::one(word, 1.0)
+
+    // The reads of two maps, those of `a` first.
+    #[tactic(auto, unfolding(crate::specs::Sums::sum_two))]
+    fn sum_two(self, a: Branches, b: Branches) -> f32
+        ensures { result ≡ sum_two self.entry.cycle.samples.now self.entry.offset a b }
+    {
+        let sum = self.products(a);
+        self.products_after(b, sum + b.first.gain * self.at(b.first.word))
+    }
 }
 
-// The sum of the reads that slot 1, if on, and then slot 0, if on, make of the read at `word`.
-pub fn mapped_sum(
-    numbers: Numbers,
-    curve: &[f32],
-    cycle: &[f32],
-    on0: bool,
-    slot0: Slot,
-    amount0: f32,
-    power0: f32,
-    half0: f32,
-    on1: bool,
-    slot1: Slot,
-    amount1: f32,
-    power1: f32,
-    half1: f32,
-    moves: bool,
-    offset: u32,
+// What a slot makes of the one read at `word`, if it has a map.
+#[tactic(auto, unfolding(crate::specs::Sums::map_if))]
+fn map_if(tables: Tables<'_>, setting: Option<MapSetting>, word: u32) -> Branches
+    ensures { Makes result (map_if tables.entry.numbers.sin tables.entry.numbers.atan tables.entry.curve.values.now setting word) }
+{
+    let read = Read { word, gain: 1.0 };
+    match setting {
+        Some(setting) => map(tables, setting, read),
+        None => Branches::one(read),
+    }
+}
+
+// The sum of the reads that slot 1's map and then slot 0's, where they have one, make of the read at `word`.
+// With `EVERY` each read counts with its gain, also one whose gain is none of a map's: for a picture. The
+// compiler puts each of the two into the one loop that calls it.
+pub fn mapped_sum<const EVERY: bool>(
+    tables: Tables<'_>,
+    reading: Reading<'_>,
+    map0: Option<MapSetting>,
+    map1: Option<MapSetting>,
     word: u32,
 ) -> f32
-    requires power0_value_1 { (on0 ≡ true → power0 ≡ map_power slot0.mode amount0) }
-    requires power0_value_2 { (on1 ≡ true → power1 ≡ map_power slot1.mode amount1) }
-    requires in_bounds_1 { 1024 < length curve.now }
-    requires in_bounds_2 { 2048 ≤ length cycle.now }
-    ensures { result ≡ read_sum cycle.now (outgoing_of (shift_if moves offset
-        (apply_if on0 numbers.sin numbers.atan curve.now slot0 amount0 half0
-        (apply_if on1 numbers.sin numbers.atan curve.now slot1 amount1 half1 (start_of word))))) }
+    ensures { result ≡ sum_of EVERY reading.entry.cycle.samples.now (shift_if reading.entry.offset
+        (apply_if tables.entry.numbers.sin tables.entry.numbers.atan tables.entry.curve.values.now map0
+        (apply_if tables.entry.numbers.sin tables.entry.numbers.atan tables.entry.curve.values.now map1 (start_of word)))) }
 {
-    let reads = map_if(numbers, curve, on1, slot1, amount1, power1, half1, word);
-    let kind = reads.kind;
-    if !on0 {
-        return sum_one(cycle, moves, offset, true, reads);
+    let reads = map_if(tables, map1, word);
+    let Some(setting) = map0 else {
+        return reading.sum_one(!EVERY, reads);
+    };
+    let first = map(tables, setting, reads.first);
+    match reads.kind {
+        BranchKind::Both => {
+            let second = map(tables, setting, reads.second);
+            reading.sum_two(first, second)
+        }
+        BranchKind::Weighted => reading.products(first),
+        BranchKind::One => reading.sum_one(!EVERY, first),
     }
-    let first = map(
-        numbers,
-        curve,
-        slot0,
-        amount0,
-        power0,
-        half0,
-        reads.word0,
-        reads.gain0,
-    );
-    if kind == KIND_BOTH {
-        let second = map(
-            numbers,
-            curve,
-            slot0,
-            amount0,
-            power0,
-            half0,
-            reads.word1,
-            reads.gain1,
-        );
-        return sum_two(cycle, moves, offset, first, second);
-    }
-    sum_one(cycle, moves, offset, kind == KIND_ONE, first)
-}
-
-// The same with the product of every read, also of one whose gain does not count, and with no reads that
-// move on: for a picture. It is not a case of `mapped_sum`, which the compiler puts into the block run's
-// loop as long as nothing else calls it.
-pub fn mapped_products(
-    numbers: Numbers,
-    curve: &[f32],
-    cycle: &[f32],
-    on0: bool,
-    slot0: Slot,
-    amount0: f32,
-    power0: f32,
-    half0: f32,
-    on1: bool,
-    slot1: Slot,
-    amount1: f32,
-    power1: f32,
-    half1: f32,
-    word: u32,
-) -> f32
-    requires power0_value_1 { (on0 ≡ true → power0 ≡ map_power slot0.mode amount0) }
-    requires power0_value_2 { (on1 ≡ true → power1 ≡ map_power slot1.mode amount1) }
-    requires in_bounds_1 { 1024 < length curve.now }
-    requires in_bounds_2 { 2048 ≤ length cycle.now }
-    ensures { result ≡ all_products cycle.now
-        (apply_if on0 numbers.sin numbers.atan curve.now slot0 amount0 half0
-        (apply_if on1 numbers.sin numbers.atan curve.now slot1 amount1 half1 (start_of word))) }
-{
-    let reads = map_if(numbers, curve, on1, slot1, amount1, power1, half1, word);
-    let kind = reads.kind;
-    if !on0 {
-        return products(cycle, false, 0, reads);
-    }
-    let first = map(
-        numbers,
-        curve,
-        slot0,
-        amount0,
-        power0,
-        half0,
-        reads.word0,
-        reads.gain0,
-    );
-    if kind == KIND_BOTH {
-        let second = map(
-            numbers,
-            curve,
-            slot0,
-            amount0,
-            power0,
-            half0,
-            reads.word1,
-            reads.gain1,
-        );
-        return sum_two(cycle, false, 0, first, second);
-    }
-    products(cycle, false, 0, first)
 }

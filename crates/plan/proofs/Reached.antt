@@ -18,7 +18,7 @@ use Rattle.phase.specs.declared.map.Slot.{Slot}
 use Rattle.phase.specs.Map.{odd_even_map, map_of, mapped, emptied, apply_of}
 use Rattle.wave.specs.Slot.{is_modulated}
 use Rattle.voice.specs.declared.control.Control.{Control}
-use Rattle.voice.specs.PhaseRun.{in_phase, map_slot, moved_of, list_of, reads_of}
+use Rattle.voice.specs.PhaseRun.{in_phase, map_slot, moved_of, list_of, reads_of, offset_if}
 use Rattle.limits.specs.Lengths.{host_length, rendered_length, span_length, pairs_length, carry_length, last_length, state_length, shorter}
 use Rattle.limits.proofs.LengthLaws.{not_short}
 use Rattle.controls.specs.Controls.{control_buffers}
@@ -50,7 +50,7 @@ odd_even character = record { mode = 16; character = character }
 -- two reads of one, and four of two
 list_four : (sk ak curve : List Float) (character0 character1 : Float) (factor : ℕ) (scale : Float) (control0 control1 : Control) (inner : Float) (word step : ℕ) (fm0 fm1 : Float)
     → (reads_of sk ak curve (odd_even character0) (odd_even character1) factor scale control0 control1 inner word step fm0 fm1).reads.count ≡ 4
-unfolding reads_of list_of map_slot moved_of in_phase is_modulated apply_of mapped emptied empty_of start_of map_of case_of odd_even_map weighted_of push_of outgoing_of stage_of modulated_of ◌>>=◌ when◌then◌else◌
+unfolding reads_of list_of map_slot moved_of offset_if in_phase is_modulated apply_of mapped emptied empty_of start_of map_of case_of odd_even_map weighted_of push_of outgoing_of stage_of modulated_of ◌>>=◌ when◌then◌else◌
 list_four sk ak curve character0 character1 factor scale control0 control1 inner word step fm0 fm1 = refl
 
 -- ---- a lane, by any count that is four where a list has four reads

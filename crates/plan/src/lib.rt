@@ -4,4 +4,4 @@
 
 pub mod needs;
 
-pub use needs::{BlockNumbers, Plan, floats_of, plan_of};
+pub use needs::{BlockNumbers, Plan, checked_plan, floats_of, plan_of};

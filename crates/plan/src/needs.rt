@@ -1,10 +1,11 @@
 // The plan of a block that is made as one range.
-ghost use Rattle.std.specs.Prelude.{◌≡◌, ◌≤◌};
+ghost use Rattle.std.specs.Prelude.{◌≡◌, ◌≤◌, IfOk};
+ghost use Rattle.limits.specs.Refusals.{number_of};
 ghost use Rattle.plan.specs.Counting.{lane_steps};
 ghost use Rattle.plan.specs.Plan.{Within, most_reads, steps_of, plan_refusal, nothing, needed, plan_of, floats_of};
 
-use halfband::numbers_refused;
-use limits::{carry_length, last_length, pairs_length, rendered_length, state_length};
+use halfband::{CallNumbers, check_numbers};
+use limits::{Refusal, carry_length, last_length, pairs_length, rendered_length, state_length};
 use reads::MAX_READS;
 
 // What a plan is asked for: lane count and active lanes, factor, the block's host frames, and how many
@@ -38,12 +39,17 @@ pub struct Plan {
 }
 
 // Lines 2, 3, 4 and 6.
-fn refused(b: BlockNumbers) -> u32
-    ensures { result ≡ plan_refusal b }
+#[tactic(auto, unfolding(crate::specs::Plan::plan_refusal, limits::specs::Lines::first_of))]
+fn check(b: BlockNumbers) -> Result<(), Refusal>
+    ensures { number_of result ≡ plan_refusal b }
 {
-    numbers_refused(
-        b.factor, b.lanes, b.active, b.frames, b.count0, b.count1, b.count2,
-    )
+    let call = CallNumbers {
+        factor: b.factor,
+        lanes: b.lanes,
+        active: b.active,
+        frames: b.frames,
+    };
+    check_numbers(call, [b.count0, b.count1, b.count2])
 }
 
 // One lane's section steps. The last stage, of design 0, makes each frame once, the one before it twice.
@@ -61,6 +67,7 @@ fn lane_steps(factor: u32, frames: u32, count0: u32, count1: u32, count2: u32) -
 }
 
 // MAX_READS for each list, and a list for each rendered frame of each active lane.
+#[tactic(auto, unfolding(crate::specs::Plan::most_reads))]
 fn most_reads(b: BlockNumbers) -> u32
     requires { Within b }
     ensures { result ≡ most_reads b }
@@ -69,6 +76,7 @@ fn most_reads(b: BlockNumbers) -> u32
 }
 
 // The steps of all active lanes.
+#[tactic(auto, unfolding(crate::specs::Plan::steps_of))]
 fn section_steps(b: BlockNumbers) -> u32
     requires { Within b }
     ensures { result ≡ steps_of b }
@@ -77,6 +85,7 @@ fn section_steps(b: BlockNumbers) -> u32
 }
 
 // A refusal: its number, and zeros.
+#[tactic(auto, unfolding(crate::specs::Plan::nothing))]
 fn refusal(number: u32) -> Plan
     ensures { result ≡ nothing number }
 {
@@ -94,6 +103,7 @@ fn refusal(number: u32) -> Plan
 }
 
 // The numbers of a block that is not turned down.
+#[tactic(auto, unfolding(crate::specs::Plan::needed))]
 fn needs(b: BlockNumbers) -> Plan
     requires { Within b }
     ensures { result ≡ needed b }
@@ -111,19 +121,30 @@ fn needs(b: BlockNumbers) -> Plan
     }
 }
 
-// What a block of these numbers needs. `Planned` and `TurnedDown` (specs/Planned, proved in proofs/Planned)
-// have what the answer means for the block's runs.
+// What a block of these numbers needs, or why it is turned down. `Planned` and `TurnedDown` (specs/Planned, proved in
+// proofs/Planned) have what the answer means for the block's runs.
+#[tactic(auto, using(crate::proofs::Passed::within, limits::proofs::LineLaws::handed_on), unfolding(crate::specs::Plan::plan_of, limits::specs::Refusals::number_of))]
+pub fn checked_plan(b: BlockNumbers) -> Result<Plan, Refusal>
+    ensures ok { IfOk result (λ plan. plan ≡ plan_of b) }
+    ensures number { number_of result ≡ plan_refusal b }
+{
+    check(b)?;
+    Ok(needs(b))
+}
+
+// The same for C: of a refusal its number, and zeros.
+#[tactic(auto, using(limits::proofs::LineLaws::some_line), unfolding(crate::specs::Plan::plan_of, limits::specs::Refusals::number_of))]
 pub fn plan_of(b: BlockNumbers) -> Plan
     ensures { result ≡ plan_of b }
 {
-    let number = refused(b);
-    if number != 0 {
-        return refusal(number);
+    match checked_plan(b) {
+        Ok(plan) => plan,
+        Err(turned_down) => refusal(u32::from(turned_down)),
     }
-    needs(b)
 }
 
 // All floats of a plan together.
+#[tactic(auto, unfolding(crate::specs::Plan::floats_of))]
 pub fn floats_of(p: Plan) -> u64
     ensures { result ≡ floats_of p }
 {

@@ -1,3 +1,3 @@
 -- The definitions that contracts cite.
 pub mod Planning
-pub mod Row
+pub mod Table

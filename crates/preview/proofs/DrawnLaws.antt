@@ -8,16 +8,20 @@ use native.Mathlib.Omega.{arith}
 use lib.ListN.{length}
 use lib.Ieee.{Float}
 use borrow.Author.Tests.{ne_eqb}
+use Rattle.std.proofs.Common.{Result, Ok, Err}
+use Rattle.std.specs.Result.{IsErrAnd}
 use Rattle.limits.specs.declared.answers.Answer.{Answer}
-use Rattle.limits.specs.Lines.{first_of, number_lines, bad_modes, bad_points}
+use Rattle.limits.specs.declared.refusal.Refusal.{Refusal}
+use Rattle.limits.specs.Refusals.{number_of, answer_of}
+use Rattle.limits.specs.Lines.{bad_modes, bad_points}
 use Rattle.limits.specs.Lengths.{curve_length, cycle_length, numbers_length, shorter}
-use Rattle.limits.proofs.LineLaws.{then_lengths, whole_table, first_passed, or_false, good_points}
+use Rattle.limits.proofs.LineLaws.{first_passed, or_false, good_points, some_number}
 use Rattle.limits.proofs.LengthLaws.{long_enough}
 use Rattle.lanes.specs.declared.maths.Numbers.{Numbers}
 use Rattle.phase.specs.declared.map.Slot.{Slot}
 use Rattle.preview.specs.Refusal.{preview_short, preview_refusal}
 use Rattle.preview.specs.Picture.{picture_of}
-use Rattle.preview.specs.Drawn.{drawn_answer, Drawn}
+use Rattle.preview.specs.Drawn.{Drawn}
 use Rattle.preview.proofs.PictureLaws.{length_picture}
 
 -- ---- an accepted call
@@ -40,11 +44,6 @@ module _ (mode0 mode1 points curve cycle numbers : ℕ) where
       let two = or_false (shorter curve_length curve) (shorter cycle_length cycle) three.0 in
       record { modes = p1.0; points = p4.0; curve = two.0; cycle = two.1; numbers = three.1 }
 
-  pub table : preview_refusal mode0 mode1 points curve cycle numbers
-      ≡ then_lengths (first_of (number_lines (bad_modes mode0 mode1) false false (bad_points points) false false)) (preview_short curve cycle numbers) false
-  unfolding preview_refusal first_of
-  table = whole_table (bad_modes mode0 mode1) false false (bad_points points) false false (preview_short curve cycle numbers) false
-
   -- what drawing asks for
   pub fits : preview_refusal mode0 mode1 points curve cycle numbers ≡ 0 → (1024 < curve) × (2048 ≤ cycle) × (points ≤ 4096)
   fits e =
@@ -61,16 +60,19 @@ module _ (slot0 slot1 : Slot) (percent0 percent1 : Float) (numbers : Numbers) (c
   abbrev Did : List Float → List Float → Answer → Type 0
   Did before after r = Drawn slot0 slot1 percent0 percent1 numbers count curve cycle before after r
 
-  -- a call that is turned down
-  pub turned_down_lem : (before : List Float) (number : ℕ) → number ≡ Number (length before) → (number ≡ 0 → ⊥) → Did before before (record { number = number; frames = 0 })
-  turned_down_lem before number e ne = record { number = e; frames = rw (ne_eqb number 0 ne); refused = λ h. refl; accepted = λ z. absurd (ne z) }
+  -- a call that is turned down, by what `?` hands on
+  pub turned_down_lem : (before : List Float) (r : Result ℕ Refusal) (e : Refusal) → IsErrAnd r (λ x. x ≡ e) → number_of {A = Unit {0}} (Err e) ≡ Number (length before) → Did before before (answer_of r)
+  unfolding answer_of number_of
+  turned_down_lem before (Ok n) e handed is = absurd handed
+  turned_down_lem before (Err x) e handed is =
+      rw handed
+      (record { number = is; frames = rw (ne_eqb _ 0 (some_number e)); refused = λ h. refl; accepted = λ z. absurd (some_number e z) })
 
   -- and one that is accepted
-  pub taken : {before after : List Float} {r : Answer} → Number (length before) ≡ 0 → r ≡ drawn_answer (length before)
-      → after ≡ picture_of numbers curve cycle slot0 slot1 percent0 percent1 (length before)
-      → Did before after r
-  taken {before} e a p =
-      record { number = ap (λ (x : Answer). x.number) a ∙ sym e; frames = rw a; refused = λ h. absurd (h (ap (λ (x : Answer). x.number) a)); accepted = λ z. p }
+  pub taken : {before after : List Float} → Number (length before) ≡ 0 → after ≡ picture_of numbers curve cycle slot0 slot1 percent0 percent1 (length before)
+      → Did before after (answer_of (Ok (length before)))
+  unfolding answer_of
+  taken e p = record { number = sym e; frames = refl; refused = λ h. absurd (h refl); accepted = λ z. p }
 
   -- two pictures of one length: what stood in them does not matter
   module _ {before before' after after' : List Float} {r r' : Answer} (one : Did before after r) (two : Did before' after' r') (same : length before ≡ length before') where

@@ -1,6 +1,5 @@
--- A picture that no slot maps, and a filter's state over one: at the start and with one point more. Assumes nothing.
-use mathlib.Core.Path.{◌≡◌, refl, ◌∙◌}
-use mathlib.Core.Bool.{false}
+-- A filter's state over a picture: at the start and with one point more. Assumes nothing.
+use mathlib.Core.Path.{◌≡◌, refl}
 use mathlib.Core.List.{List}
 use Prim.Native.Nat.{ℕ, ◌+◌}
 use native.Mathlib.Numerals.{add-one}
@@ -8,28 +7,9 @@ use lib.ListN.{length, get_or}
 use lib.Ieee.{Float, nan}
 use Rattle.wave.specs.declared.filters.Svf.{Svf}
 use Rattle.wave.specs.declared.filters.Filtered.{Filtered}
-use Rattle.lanes.specs.declared.maths.Numbers.{Numbers}
-use Rattle.phase.specs.declared.map.Slot.{Slot}
-use Rattle.voice.specs.PhaseRun.{in_phase}
-use Rattle.preview.specs.Picture.{read_of}
 use Rattle.grid.specs.Runs.{Ran}
 use Rattle.grid.proofs.RunLaws.{ran_done}
-use Rattle.preview.specs.Runs.{plain_at}
-use Rattle.preview.proofs.PointLaws.{plain_point}
 use Rattle.preview.specs.Filtering.{pass_to, settled_to, drawn_at, silent, filtered_of}
-
--- ---- a picture that no slot maps
-pub plain_done : (cycle before after curve : List Float) (numbers : Numbers) (slot0 : Slot) (a0 h0 : Float) (slot1 : Slot) (a1 h1 : Float)
-    → in_phase slot0.mode ≡ false → in_phase slot1.mode ≡ false → Ran nan (plain_at cycle (length before)) before after (length before)
-    → after ≡ read_of numbers curve cycle slot0 a0 h0 slot1 a1 h1 (length before)
-unfolding read_of
-plain_done cycle before after curve numbers slot0 a0 h0 slot1 a1 h1 e0 e1 r =
-    ran_done _ before after
-    (record {
-      long = r.long;
-      made = λ k l. r.made k l ∙ plain_point numbers.sin numbers.atan curve cycle slot0 a0 h0 slot1 a1 h1 _ e0 e1;
-      kept = r.kept;
-    })
 
 -- ---- a filter's state
 

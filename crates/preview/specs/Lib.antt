@@ -1,7 +1,6 @@
 -- The definitions that contracts cite. Their laws are in proofs/.
 pub mod Points
 pub mod Filtering
-pub mod Runs
 pub mod Shaping
 pub mod Picture
 pub mod Refusal

@@ -1,5 +1,5 @@
 -- A point of a picture: where it reads, and what its reads add up to. Definitions only.
-use Rattle.std.specs.Prelude.{ℕ, ◌*◌, ◌/◌, ◌^◌, ◌≡◌, List, pos, Float}
+use Rattle.std.specs.Prelude.{ℕ, ◌*◌, ◌/◌, ◌^◌, ◌≡◌, List, pos, Option, Float}
 use Rattle.std.specs.Float.Ieee as Ieee
 use Rattle.std.specs.Float.{binary32}
 use Rattle.floats.specs.F32.{◌⊘◌, 0f, 1f, 100f}
@@ -9,11 +9,9 @@ use Rattle.curve.specs.Curve.{steepest_of}
 use Rattle.reads.specs.declared.lists.ReadList.{ReadList}
 use Rattle.reads.specs.Reads.{start_of}
 use Rattle.slope.specs.Slope.{stretch_of}
-use Rattle.phase.specs.declared.map.Slot.{Slot}
+use Rattle.phase.specs.declared.setting.MapSetting.{MapSetting}
 use Rattle.phase.specs.Sums.{apply_if, all_products}
 use Rattle.voice.specs.PhaseRun.{in_phase}
-use Rattle.voice.specs.Power.{power_of}
-use Rattle.preview.specs.declared.points.MapSetting.{MapSetting}
 
 -- (self.slots[slot].amount / 100.0).clamp(0.0, 1.0)
 unfoldable pub amount_of : Float → Float
@@ -35,23 +33,15 @@ pub record Steepest (mode : ℕ) (curve : List Float) (s : Float) : Type 0 where
 unfoldable pub inner_of : ℕ → Float → List Float → Float
 inner_of mode a curve = when in_phase mode then stretch_of mode a (steepest_of curve) else 1f
 
--- what of a slot's map goes by no point; h is its half width
-unfoldable pub map_setting : Slot → Float → Float → MapSetting
-map_setting slot a h = record { on = in_phase slot.mode; slot = slot; amount = a; power = power_of slot.mode a; half = h }
-
--- m is what `map_setting` makes of its own numbers
-abbrev pub IsSet : MapSetting → Type 0
-IsSet m = m ≡ map_setting m.slot m.amount m.half
-
--- slot 1's map, then slot 0's; h0 and h1 are their half widths
-unfoldable pub drawn_reads : List Float → List Float → List Float → Slot → Float → Float → Slot → Float → Float → ℕ → ReadList
-drawn_reads sk ak curve slot0 a0 h0 slot1 a1 h1 word = do
+-- slot 1's map, then slot 0's, where they have one
+unfoldable pub drawn_reads : List Float → List Float → List Float → Option MapSetting → Option MapSetting → ℕ → ReadList
+drawn_reads sk ak curve map0 map1 word = do
   start ← start_of word
-  list1 ← apply_if (in_phase slot1.mode) sk ak curve slot1 a1 h1 start
-  apply_if (in_phase slot0.mode) sk ak curve slot0 a0 h0 list1
+  list1 ← apply_if sk ak curve map1 start
+  apply_if sk ak curve map0 list1
 
 -- (0..list.count).map(|r| list.gain[r] * wave.read(list.word[r])).sum(), added up from the first product on
-unfoldable pub point_of : List Float → List Float → List Float → List Float → Slot → Float → Float → Slot → Float → Float → ℕ → Float
-point_of sk ak curve cycle slot0 a0 h0 slot1 a1 h1 word = do
-  list ← drawn_reads sk ak curve slot0 a0 h0 slot1 a1 h1 word
+unfoldable pub point_of : List Float → List Float → List Float → List Float → Option MapSetting → Option MapSetting → ℕ → Float
+point_of sk ak curve cycle map0 map1 word = do
+  list ← drawn_reads sk ak curve map0 map1 word
   all_products cycle list

@@ -1,10 +1,10 @@
 -- A picture through a slot of the wave stage. Definitions only.
-use Rattle.std.specs.Prelude.{ℕ, Bool, true, false, not, ◌&&◌, List, length, get_or, Float}
-use Rattle.std.proofs.Math.Option.{Option, some, none}
+use Rattle.std.specs.Prelude.{ℕ, Bool, true, false, not, ◌&&◌, List, length, get_or, Float, Option, Some, None, Result, Ok, Err}
 use Rattle.std.specs.Float.{nan}
 use Rattle.floats.specs.Steps.{◌>>=◌, when◌then◌else◌}
 use Rattle.grid.specs.Functions.{table}
-use Rattle.modes.specs.Facts.{Fact, given, refused, Source}
+use Rattle.limits.specs.declared.refusal.Refusal.{Refusal}
+use Rattle.modes.specs.declared.facts.Source.{Source}
 use Rattle.modes.specs.Table.{source_of}
 use Rattle.phase.specs.declared.map.Slot.{Slot}
 use Rattle.wave.specs.Filter.{cutoff_harmonic, damping_of, filter_of}
@@ -12,10 +12,10 @@ use Rattle.wave.specs.Smooth.{rectified, distort_of}
 use Rattle.wave.specs.Slot.{in_wave, is_filter}
 use Rattle.preview.specs.Filtering.{filtered_of}
 
-abbrev pub says_source : Fact (Option Source) → Bool
-says_source (given (some s)) = true
-says_source (given none) = false
-says_source (refused n) = false
+abbrev pub says_source : Result (Option Source) Refusal → Bool
+says_source (Ok (Some s)) = true
+says_source (Ok None) = false
+says_source (Err _) = false
 
 -- mode.source().is_some()
 unfoldable pub has_source : ℕ → Bool

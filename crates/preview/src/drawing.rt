@@ -1,105 +1,60 @@
 // A picture's reads, and the whole of it.
-ghost use Rattle.std.specs.Prelude.{◌≡◌, ◌≤◌, ◌<◌, length};
-ghost use Rattle.std.specs.Float.{nan};
-ghost use Rattle.floats.specs.Exp2.{entries};
-ghost use Rattle.preview.specs.Points.{IsSet};
-ghost use Rattle.grid.specs.Runs.{Ran};
-ghost use Rattle.preview.specs.Runs.{plain_at};
+ghost use Rattle.std.specs.Prelude.{◌≡◌, ◌≤◌, length};
 ghost use Rattle.preview.specs.Picture.{read_of, picture_of};
 
-use crate::points::{MapSetting, amount_of, increment_of, inner_of, map_setting, point, word_at};
+use crate::points::{PanelSlot, amount_of, increment_of, inner_of, map_of, word_at};
 use crate::shaping::shape_slot;
-use lanes::Numbers;
-use phase::Slot;
-use reads::read_cycle;
+use phase::{MapSetting, Reading, Tables, mapped_sum};
+use reads::Cycle;
 
-// The sums of all points' reads, where a slot is in the phase stage.
-fn read_mapped(
-    numbers: Numbers,
-    curve: &[f32],
-    cycle: &[f32],
-    map0: MapSetting,
-    map1: MapSetting,
-    picture: &mut [f32],
-)
-    requires set_1 { IsSet map0 }
-    requires set_2 { IsSet map1 }
-    requires in_bounds_1 { 1024 < length curve.now }
-    requires in_bounds_2 { 2048 ≤ length cycle.now }
-    requires in_bounds_3 { length picture.old ≤ 4096 }
-    ensures { picture.new ≡ read_of numbers curve.now cycle.now
-        map0.slot map0.amount map0.half map1.slot map1.amount map1.half (length picture.old) }
-{
-    let points = picture.len();
-    for i in 0..points {
-        let word = word_at(points, i);
-        picture[i] = point(numbers, curve, cycle, map0, map1, word);
-    }
-}
-
-// Where none is: the cycle at each point's word, with gain 1.
-fn read_plain(cycle: &[f32], picture: &mut [f32])
-    requires fact_1 { 2048 ≤ length cycle.now }
-    requires fact_2 { length picture.old ≤ 4096 }
-    ensures { Ran nan (plain_at cycle.now (length picture.old)) picture.old picture.new (length picture.old) }
-{
-    let points = picture.len();
-    for i in 0..points {
-        let word = word_at(points, i);
-        picture[i] = 1.0 * read_cycle(cycle, word);
-    }
-}
-
-// The sums of all points' reads.
+// The sums of all points' reads. By index, which makes the word: nothing is known of what an adapter of
+// `iter_mut` wrote.
 fn read(
-    numbers: Numbers,
-    curve: &[f32],
-    cycle: &[f32],
-    map0: MapSetting,
-    map1: MapSetting,
+    tables: Tables<'_>,
+    cycle: Cycle<'_>,
+    map0: Option<MapSetting>,
+    map1: Option<MapSetting>,
     picture: &mut [f32],
 )
-    requires set_1 { IsSet map0 }
-    requires set_2 { IsSet map1 }
-    requires in_bounds_1 { 1024 < length curve.now }
-    requires in_bounds_2 { 2048 ≤ length cycle.now }
-    requires in_bounds_3 { length picture.old ≤ 4096 }
-    ensures { picture.new ≡ read_of numbers curve.now cycle.now
-        map0.slot map0.amount map0.half map1.slot map1.amount map1.half (length picture.old) }
+    requires { length picture.old ≤ 4096 }
+    ensures { picture.new ≡ read_of tables.entry.numbers tables.entry.curve.values.now cycle.entry.samples.now
+        map0 map1 (length picture.old) }
 {
-    if map0.on | map1.on {
-        read_mapped(numbers, curve, cycle, map0, map1, picture);
-        return;
+    let points = picture.len();
+    let reading = Reading {
+        cycle,
+        offset: None,
+    };
+    for i in 0..points {
+        picture[i] = mapped_sum::<true>(tables, reading, map0, map1, word_at(points, i));
     }
-    read_plain(cycle, picture);
 }
 
-// The picture of a call that is accepted: the reads, then slot 0 and slot 1.
+// The picture of a call that is accepted, and how many points it has: the reads, then slot 0 and slot 1.
 pub fn draw(
-    powers: &[u32; 257],
-    numbers: Numbers,
-    curve: &[f32],
-    cycle: &[f32],
-    slot0: Slot,
-    slot1: Slot,
-    percent0: f32,
-    percent1: f32,
+    tables: Tables<'_>,
+    cycle: Cycle<'_>,
+    panel0: PanelSlot,
+    panel1: PanelSlot,
     picture: &mut [f32],
-)
-    requires fact_1 { powers.now ≡ entries }
-    requires fact_2 { 1024 < length curve.now }
-    requires fact_3 { 2048 ≤ length cycle.now }
-    requires fact_4 { length picture.old ≤ 4096 }
-    ensures { picture.new ≡ picture_of numbers curve.now cycle.now slot0 slot1 percent0 percent1 (length picture.old) }
+) -> u32
+    requires { length picture.old ≤ 4096 }
+    ensures count { result ≡ length picture.old }
+    ensures drawn { picture.new ≡ picture_of tables.entry.numbers tables.entry.curve.values.now cycle.entry.samples.now
+        panel0.slot panel1.slot panel0.percent panel1.percent (length picture.old) }
 {
-    let increment = increment_of(picture.len());
-    let a0 = amount_of(percent0);
-    let a1 = amount_of(percent1);
-    let inner = inner_of(powers, slot1.mode, a1, curve);
+    let points = picture.len();
+    let increment = increment_of(points);
+    let slot0 = panel0.slot;
+    let slot1 = panel1.slot;
+    let a0 = amount_of(panel0.percent);
+    let a1 = amount_of(panel1.percent);
+    let inner = inner_of(slot1.mode, a1, tables.curve);
     let half = 0.25 * increment;
-    let map0 = map_setting(powers, slot0, a0, half * inner);
-    let map1 = map_setting(powers, slot1, a1, half);
-    read(numbers, curve, cycle, map0, map1, picture);
-    shape_slot(powers, numbers, slot0, a0, increment, picture);
-    shape_slot(powers, numbers, slot1, a1, increment, picture);
+    let map0 = map_of(slot0, a0, half * inner);
+    let map1 = map_of(slot1, a1, half);
+    read(tables, cycle, map0, map1, picture);
+    shape_slot(tables.numbers, slot0, a0, increment, picture);
+    shape_slot(tables.numbers, slot1, a1, increment, picture);
+    points as u32
 }

@@ -1,62 +1,56 @@
-// A picture through a filter: its state over the points, pass by pass. `g` is the cutoff's tangent, `k`
-// the damping.
+// A picture through a filter: its state over the points, pass by pass.
 ghost use Rattle.std.specs.Prelude.{◌≡◌, length};
 ghost use Rattle.std.specs.Float.{nan};
-ghost use Rattle.wave.specs.Filter.{tangent_of, filter_with};
+ghost use Rattle.wave.specs.Filter.{filter_with};
 ghost use Rattle.preview.specs.Filtering.{pass_to, settled_to, drawn_at, silent};
 ghost use Rattle.grid.specs.Runs.{Ran};
 
-use lanes::{Numbers, cos_cycles, min, sin_cycles};
 use wave::{Svf, filter_with};
 
-const PI: f32 = 3.1415927;
+// How many cycles a filter is given to settle.
+const PASSES: u32 = 15;
 
-const TAU: f32 = 6.2831855;
-
-// `wave::tangent` in its steps: the compiler puts that into the block run's loop as long as nothing else
-// calls it.
-pub fn tangent(numbers: Numbers, harmonic: f32, increment: f32) -> f32
-    ensures { result ≡ tangent_of numbers.sin harmonic increment }
-{
-    let cutoff = min(harmonic * increment, 0.45);
-    let t = cutoff * PI * (1.0 / TAU);
-    sin_cycles(numbers, t) / cos_cycles(numbers, t)
+// A filter that stays over all points: `g` is its cutoff's tangent, `k` the damping.
+#[derive(Clone, Copy)]
+pub struct Filter {
+    pub mode: u32,
+    pub g: f32,
+    pub k: f32,
 }
 
-// The filter's state after a pass over the picture.
-fn pass(mode: u32, g: f32, k: f32, state: Svf, picture: &[f32]) -> Svf
-    ensures { result ≡ pass_to (filter_with mode g k) picture.now state (length picture.now) }
-{
-    let mut s = state;
-    for i in 0..picture.len() {
-        let out = filter_with(mode, g, k, picture[i], s);
-        let next = out.state;
-        s = next;
+impl Filter {
+    // The state after a pass over the picture.
+    #[tactic(auto, using(crate::proofs::RunLaws::pass_none, crate::proofs::RunLaws::pass_more))]
+    fn pass(self, mut state: Svf, picture: &[f32]) -> Svf
+        ensures { result ≡ pass_to (filter_with self.mode self.g self.k) picture.now state (length picture.now) }
+    {
+        for x in picture {
+            state = filter_with(self.mode, self.g, self.k, *x, state).state;
+        }
+        state
     }
-    s
-}
 
-// After fifteen of them, from silence.
-pub fn settle(mode: u32, g: f32, k: f32, picture: &[f32]) -> Svf
-    ensures { result ≡ settled_to (filter_with mode g k) picture.now silent 15 }
-{
-    let mut s = Svf { ic1: 0.0, ic2: 0.0 };
-    let passes = 15usize;
-    for _ in 0..passes {
-        s = pass(mode, g, k, s, picture);
+    // After fifteen of them, from silence.
+    #[tactic(auto, using(crate::proofs::RunLaws::settled_none, crate::proofs::RunLaws::settled_more))]
+    pub fn settle(self, picture: &[f32]) -> Svf
+        ensures { result ≡ settled_to (filter_with self.mode self.g self.k) picture.now silent 15 }
+    {
+        let mut state = Svf { ic1: 0.0, ic2: 0.0 };
+        for _ in 0..PASSES {
+            state = self.pass(state, picture);
+        }
+        state
     }
-    s
-}
 
-// The pass that is drawn, in place.
-pub fn draw_pass(mode: u32, g: f32, k: f32, state: Svf, picture: &mut [f32])
-    ensures { Ran nan (drawn_at (filter_with mode g k) picture.old state) picture.old picture.new (length picture.old) }
-{
-    let mut s = state;
-    for i in 0..picture.len() {
-        let out = filter_with(mode, g, k, picture[i], s);
-        picture[i] = out.y;
-        let next = out.state;
-        s = next;
+    // The pass that is drawn, in place.
+    #[tactic(auto, using(crate::proofs::RunLaws::pass_none))]
+    pub fn draw_pass(self, mut state: Svf, picture: &mut [f32])
+        ensures { Ran nan (drawn_at (filter_with self.mode self.g self.k) picture.old state) picture.old picture.new (length picture.old) }
+    {
+        for x in picture.iter_mut() {
+            let out = filter_with(self.mode, self.g, self.k, *x, state);
+            *x = out.y;
+            state = out.state;
+        }
     }
 }

@@ -1,16 +1,17 @@
 -- A slot on one sample, and over a run of samples. `sk` are the sine's numbers. Definitions only.
-use Rattle.std.specs.Prelude.{ℕ, zero, suc, min, Bool, true, false, cond, List, ltb, eqb, length, get_or, set, Float}
+use Rattle.std.specs.Prelude.{ℕ, zero, suc, min, Option, Some, None, cond, List, ltb, eqb, length, get_or, set, Float}
 use Rattle.std.specs.Float.{nan}
 use Rattle.wave.specs.declared.filters.Svf.{Svf}
 use Rattle.wave.specs.declared.filters.Filtered.{Filtered}
 use Rattle.wave.specs.Slot.{setting_of, shape_of}
 
-unfoldable pub flag_of : ℕ → Bool
-flag_of word = cond (eqb word 0) false true
+-- what a slot hears: nothing where `sourced` is 0
+unfoldable pub heard_of : ℕ → Float → Option Float
+heard_of sourced source = cond (eqb sourced 0) None (Some source)
 
 -- the slot's setting, and the sample shaped by it
 unfoldable pub slot_of : List Float → ℕ → Float → Float → ℕ → Float → Float → Float → Svf → Filtered
-slot_of sk mode a character sourced source increment x state = shape_of sk mode (setting_of mode a character (flag_of sourced) source) increment x state
+slot_of sk mode a character sourced source increment x state = shape_of sk mode (setting_of mode a character (heard_of sourced source)) increment x state
 
 -- a state's first two cells, and the state put into them
 unfoldable pub start_in : List Float → Svf

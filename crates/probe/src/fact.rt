@@ -1,92 +1,88 @@
-// The mode facts as numbers: 256 and the refusal's number for one that is refused.
-ghost use Rattle.std.specs.Prelude.{◌≡◌};
+// The mode facts for C, which hears numbers: 256 and the refusal's number for one that is refused.
+ghost use Rattle.std.specs.Prelude.{◌≡◌, ◌+◌, MatchResult};
+ghost use Rattle.std.specs.Result.{ForOk};
+ghost use Rattle.limits.specs.Refusals.{line_of};
 ghost use Rattle.modes.specs.Table.{source_of, fm_type_of, modulated_of, stage_of, oversampled_of, distortion_of};
 ghost use Rattle.probe.specs.Codes.{code_of, source_code, fm_type_code, modulated_code, stage_code, flag_code};
 
-use modes::{FlagFact, FmTypeFact, ModulatedFact, SourceFact, StageFact};
+use limits::Refusal;
+use modes::{FmType, Modulated, Source};
+
+// What a fact says, by its number.
+#[tactic(auto, unfolding(limits::specs::Refusals::line_of))]
+fn coded<T, F: FnOnce(T) -> u32>(fact: Result<T, Refusal>, number: F) -> u32
+    requires { ForOk fact (F.pre number) }
+    ensures { MatchResult fact (λ said. F.post number said result) (λ refusal. result ≡ 256 + line_of refusal) }
+{
+    match fact {
+        Ok(said) => number(said),
+        Err(refusal) => 256 + u32::from(refusal),
+    }
+}
+
+// Nothing is 0.
+fn source_number(source: Option<Source>) -> u32
+    ensures { result ≡ source_code source }
+{
+    source.map_or(0, |source| source as u32)
+}
+
+fn fm_type_number(fm_type: Option<FmType>) -> u32
+    ensures { result ≡ fm_type_code fm_type }
+{
+    fm_type.map_or(0, |fm_type| fm_type as u32)
+}
+
+fn modulated_number(modulated: Option<Modulated>) -> u32
+    ensures { result ≡ modulated_code modulated }
+{
+    match modulated {
+        None => 0,
+        Some(Modulated::Fm(_)) => 1,
+        Some(Modulated::PhaseDistortion) => 2,
+        Some(Modulated::Am) => 3,
+        Some(Modulated::Ring) => 4,
+    }
+}
 
 #[unsafe(no_mangle)]
 pub extern "C" fn probe_source(mode: u32) -> u32
     ensures { result ≡ code_of source_code (source_of mode) }
 {
-    let fact = modes::source(mode);
-    match fact {
-        SourceFact::Osc1 => 1,
-        SourceFact::Osc2 => 2,
-        SourceFact::Noise => 3,
-        SourceFact::Sub => 4,
-        SourceFact::Filter1 => 5,
-        SourceFact::Filter2 => 6,
-        SourceFact::Own => 7,
-        SourceFact::Nothing => 0,
-        SourceFact::Refused => 257,
-    }
+    coded(modes::source(mode), source_number)
 }
 
 #[unsafe(no_mangle)]
 pub extern "C" fn probe_fm_type(mode: u32) -> u32
     ensures { result ≡ code_of fm_type_code (fm_type_of mode) }
 {
-    let fact = modes::fm_type(mode);
-    match fact {
-        FmTypeFact::ThruZero => 1,
-        FmTypeFact::Exponential => 2,
-        FmTypeFact::Linear => 3,
-        FmTypeFact::Nothing => 0,
-        FmTypeFact::Refused => 257,
-    }
+    coded(modes::fm_type(mode), fm_type_number)
 }
 
 #[unsafe(no_mangle)]
 pub extern "C" fn probe_modulated(mode: u32) -> u32
     ensures { result ≡ code_of modulated_code (modulated_of mode) }
 {
-    let fact = modes::modulated(mode);
-    match fact {
-        ModulatedFact::FmThruZero => 1,
-        ModulatedFact::FmExponential => 1,
-        ModulatedFact::FmLinear => 1,
-        ModulatedFact::PhaseDistortion => 2,
-        ModulatedFact::Am => 3,
-        ModulatedFact::Ring => 4,
-        ModulatedFact::Nothing => 0,
-        ModulatedFact::Refused => 257,
-    }
+    coded(modes::modulated(mode), modulated_number)
 }
 
 #[unsafe(no_mangle)]
 pub extern "C" fn probe_stage(mode: u32) -> u32
     ensures { result ≡ code_of stage_code (stage_of mode) }
 {
-    let fact = modes::stage(mode);
-    match fact {
-        StageFact::Off => 0,
-        StageFact::Phase => 1,
-        StageFact::Wave => 2,
-        StageFact::Refused => 257,
-    }
+    coded(modes::stage(mode), |stage| stage as u32)
 }
 
 #[unsafe(no_mangle)]
 pub extern "C" fn probe_oversampled(mode: u32) -> u32
     ensures { result ≡ code_of flag_code (oversampled_of mode) }
 {
-    let fact = modes::oversampled(mode);
-    match fact {
-        FlagFact::Yes => 1,
-        FlagFact::No => 0,
-        FlagFact::Refused => 257,
-    }
+    coded(modes::oversampled(mode), u32::from)
 }
 
 #[unsafe(no_mangle)]
 pub extern "C" fn probe_distortion(mode: u32) -> u32
     ensures { result ≡ code_of flag_code (distortion_of mode) }
 {
-    let fact = modes::distortion(mode);
-    match fact {
-        FlagFact::Yes => 1,
-        FlagFact::No => 0,
-        FlagFact::Refused => 257,
-    }
+    coded(modes::distortion(mode), u32::from)
 }

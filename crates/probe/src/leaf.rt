@@ -1,10 +1,8 @@
-// The leaves of floats and lanes. What needs the table of powers runs over slices, so
-// that the table is made once.
+// The leaves of floats and lanes. What reads the table of powers runs over slices.
 ghost use Rattle.std.specs.Prelude.{◌≡◌, min, length, pos};
 ghost use Rattle.std.specs.Float.{binary32};
 ghost use Rattle.std.specs.Float.Ieee.{of_int, to_unsigned};
 ghost use Rattle.floats.specs.Casts.{as_signed, cast_word};
-ghost use Rattle.floats.specs.Exp2.{entries};
 ghost use Rattle.floats.specs.Floor.{floor_of};
 ghost use Rattle.floats.specs.Pattern.{split_of};
 ghost use Rattle.floats.specs.Sign.{abs_of, sign_bit};
@@ -15,7 +13,7 @@ ghost use Rattle.lanes.specs.Word.{add_words, pick_word, signed_of, to_word};
 ghost use Rattle.probe.specs.Leaves.{any_word, lookup_or_zero, powers_leaf, powers_leaf_at};
 ghost use Rattle.probe.specs.Runs.{Ran};
 
-use floats::{POWERS, Parts};
+use floats::Parts;
 use lanes::Numbers;
 
 #[unsafe(no_mangle)]
@@ -205,10 +203,11 @@ pub extern "C" fn probe_split(x: f32) -> Parts
 pub extern "C" fn probe_any(x: f32) -> u32
     ensures { result ≡ any_word x }
 {
-    if lanes::any(x) { 1 } else { 0 }
+    u32::from(lanes::any(x))
 }
 
 // 0 where the table is too short.
+#[tactic(auto, unfolding(crate::specs::Leaves::lookup_or_zero))]
 #[unsafe(no_mangle)]
 pub extern "C" fn probe_lookup(table: &[f32], x: f32) -> f32
     ensures { result ≡ lookup_or_zero table.now x }
@@ -220,44 +219,30 @@ pub extern "C" fn probe_lookup(table: &[f32], x: f32) -> f32
     }
 }
 
-// One of the leaves that the table of powers is lent to, by number; `x` for any other number.
-fn powers_leaf(powers: &[u32; 257], leaf: u32, x: f32) -> f32
-    requires { powers.now ≡ entries }
+// One of the leaves that read the table of powers, by C's number; `x` for any other number.
+#[tactic(auto, unfolding(crate::specs::Leaves::powers_leaf))]
+fn powers_leaf(leaf: u32, x: f32) -> f32
     ensures { result ≡ powers_leaf leaf x }
 {
-    if leaf == 0 {
-        return floats::exp2(powers, x);
+    match leaf {
+        0 => floats::exp2(x),
+        1 => lanes::tanh(x),
+        2 => lanes::exp(x),
+        3 => lanes::ln_cosh(x),
+        _ => x,
     }
-    if leaf == 1 {
-        return lanes::tanh(powers, x);
-    }
-    if leaf == 2 {
-        return lanes::exp(powers, x);
-    }
-    if leaf == 3 {
-        return lanes::ln_cosh(powers, x);
-    }
-    x
 }
 
-pub fn least(a: usize, b: usize) -> usize
-    ensures { result ≡ min a b }
-{
-    if a < b { a } else { b }
-}
-
-// The leaf at each of `xs`, as far as `out` has room; how many they are.
+// The leaf at each of `xs`, as far as `out` has room; how many they are. By index: of what is written through a
+// `zip` a proof knows nothing.
 #[unsafe(no_mangle)]
 pub extern "C" fn probe_powers_run(leaf: u32, xs: &[f32], out: &mut [f32]) -> usize
     ensures value { result ≡ min (length xs.now) (length out.old) }
     ensures ran { Ran (powers_leaf_at leaf xs.now) out.old out.new result }
 {
-    let powers = POWERS;
-    let n = least(xs.len(), out.len());
-    let mut i = 0;
-    while i < n {
-        out[i] = powers_leaf(&powers, leaf, xs[i]);
-        i += 1;
+    let n = xs.len().min(out.len());
+    for i in 0..n {
+        out[i] = powers_leaf(leaf, xs[i]);
     }
-    i
+    n
 }

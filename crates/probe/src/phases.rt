@@ -1,17 +1,16 @@
 // The phase side: the curve, stretch, and read lists of two slots.
 ghost use Rattle.std.specs.Prelude.{◌≡◌, ◌<◌, ◌≤◌, length};
-ghost use Rattle.floats.specs.Exp2.{entries};
 ghost use Rattle.curve.specs.Curve.{value_of, steepest_of};
 ghost use Rattle.curve.specs.Answers.{answered};
 ghost use Rattle.slope.specs.Slope.{stretch_answer};
 ghost use Rattle.probe.specs.Phases.{reads_of, reads_or_none, sample_of, run_length};
 ghost use Rattle.probe.specs.Runs.{Ran};
 
-use floats::POWERS;
+use curve::Curve;
 use lanes::Numbers;
 use limits::Value;
-use phase::Slot;
-use reads::{LaneReads, ReadList};
+use phase::{MapSetting, Slot, Tables};
+use reads::{Cycle, LaneReads, ReadList};
 
 // Two slots' modes, characters and amounts.
 #[repr(C)]
@@ -29,37 +28,27 @@ pub struct Slots {
 pub extern "C" fn probe_curve_value(curve: &[f32], x: f32) -> Value
     ensures { result ≡ answered curve.now (value_of curve.now x) }
 {
-    curve::value(curve, x)
+    Value::from(curve::value(curve, x))
 }
 
 #[unsafe(no_mangle)]
 pub extern "C" fn probe_curve_steepest(curve: &[f32]) -> Value
     ensures { result ≡ answered curve.now (steepest_of curve.now) }
 {
-    curve::steepest(curve)
+    Value::from(curve::steepest(curve))
 }
 
 #[unsafe(no_mangle)]
 pub extern "C" fn probe_stretch(mode: u32, amount: f32, curve: f32) -> Value
     ensures { result ≡ stretch_answer mode amount curve }
 {
-    slope::stretch(mode, amount, curve)
+    Value::from(slope::stretch(mode, amount, curve))
 }
 
 // The read list of two slots without offsets: slot 1 maps first, then slot 0 with half width times
 // `inner`.
-fn reads(
-    powers: &[u32; 257],
-    numbers: Numbers,
-    curve: &[f32],
-    slots: Slots,
-    half: f32,
-    inner: f32,
-    word: u32,
-) -> LaneReads
-    requires fact_1 { powers.now ≡ entries }
-    requires fact_2 { 1024 < length curve.now }
-    ensures value { result ≡ reads_of numbers.sin numbers.atan curve.now slots half inner word }
+fn reads(tables: Tables<'_>, slots: Slots, half: f32, inner: f32, word: u32) -> LaneReads
+    ensures value { result ≡ reads_of tables.entry.numbers.sin tables.entry.numbers.atan tables.entry.curve.values.now slots half inner word }
     ensures count_bound { result.count ≤ 4 }
 {
     let slot1 = Slot {
@@ -70,21 +59,14 @@ fn reads(
         mode: slots.mode0,
         character: slots.character0,
     };
-    let start = ReadList::start(word);
-    let first = phase::apply(powers, numbers, curve, slot1, slots.amount1, half, start);
-    let second = phase::apply(
-        powers,
-        numbers,
-        curve,
-        slot0,
-        slots.amount0,
-        half * inner,
-        first,
-    );
-    reads::outgoing(second)
+    let map1 = MapSetting::new(slot1, slots.amount1, half);
+    let map0 = MapSetting::new(slot0, slots.amount0, half * inner);
+    let first = phase::apply(tables, map1, ReadList::start(word));
+    LaneReads::from(phase::apply(tables, map0, first))
 }
 
 // The same as an export; zeros where the curve is too short.
+#[tactic(auto, unfolding(crate::specs::Phases::reads_or_none))]
 #[unsafe(no_mangle)]
 pub extern "C" fn probe_apply(
     numbers: Numbers,
@@ -96,31 +78,19 @@ pub extern "C" fn probe_apply(
 ) -> LaneReads
     ensures { result ≡ reads_or_none numbers.sin numbers.atan curve.now slots half inner word }
 {
-    if curve.len() < 1025 {
-        return LaneReads {
+    match Curve::new(curve) {
+        Ok(curve) => reads(Tables { numbers, curve }, slots, half, inner, word),
+        Err(_) => LaneReads {
             phase: [0; 4],
             gain: [0.0; 4],
             count: 0,
-        };
+        },
     }
-    let powers = POWERS;
-    reads(&powers, numbers, curve, slots, half, inner, word)
 }
 
-// How many samples a run makes: none where a table is too short.
-fn run_length(curve: usize, cycle: usize, words: usize, out: usize) -> usize
-    ensures { result ≡ run_length curve cycle words out }
-{
-    if curve < 1025 {
-        return 0;
-    }
-    if cycle < 2048 {
-        return 0;
-    }
-    if words < out { words } else { out }
-}
-
-// The sum of the reads of the cycle at each of `words`, as far as `out` has room; how many they are.
+// The sum of the reads of the cycle at each of `words`, as far as `out` has room; how many they are, none where a
+// table is too short. By index, as in leaf.rt.
+#[tactic(auto, unfolding(crate::specs::Phases::run_length, crate::specs::Phases::sample_of))]
 #[unsafe(no_mangle)]
 pub extern "C" fn probe_reads_run(
     numbers: Numbers,
@@ -135,13 +105,16 @@ pub extern "C" fn probe_reads_run(
     ensures value { result ≡ run_length (length curve.now) (length cycle.now) (length words.now) (length out.old) }
     ensures ran { Ran (sample_of numbers.sin numbers.atan curve.now cycle.now slots half inner words.now) out.old out.new result }
 {
-    let powers = POWERS;
-    let n = run_length(curve.len(), cycle.len(), words.len(), out.len());
-    let mut i = 0;
-    while i < n {
-        let list = reads(&powers, numbers, curve, slots, half, inner, words[i]);
-        out[i] = reads::read_sum(cycle, list);
-        i += 1;
+    let Ok(curve) = Curve::new(curve) else {
+        return 0;
+    };
+    let Ok(cycle) = Cycle::new(cycle) else {
+        return 0;
+    };
+    let tables = Tables { numbers, curve };
+    let n = words.len().min(out.len());
+    for i in 0..n {
+        out[i] = cycle.sum(reads(tables, slots, half, inner, words[i]));
     }
-    i
+    n
 }

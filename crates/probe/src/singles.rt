@@ -6,7 +6,7 @@ ghost use Rattle.shaper.specs.ReadsCall.{ReadsCall};
 ghost use Rattle.shaper.specs.SampleCall.{SampleCall};
 ghost use Rattle.probe.specs.Singles.{settings, range};
 
-use floats::power_table;
+use controls::ControlSlices;
 use lanes::Numbers;
 use limits::Valued;
 use phase::Slot;
@@ -16,8 +16,36 @@ use shaper::{Range, ReadsAnswer, Settings};
 pub extern "C" fn probe_fm_exponential(s: f32) -> f32
     ensures { result ≡ fm_exponential s }
 {
-    let powers = power_table();
-    voice::fm_exponential(&powers, s)
+    voice::fm_exponential(s)
+}
+
+// C gives a call's numbers one by one.
+fn settings(
+    mode0: u32,
+    mode1: u32,
+    character0: f32,
+    character1: f32,
+    factor: u32,
+    lanes: u32,
+    frames: u32,
+    numbers: Numbers,
+) -> Settings
+    ensures { result ≡ settings mode0 mode1 character0 character1 factor lanes frames numbers }
+{
+    Settings {
+        slot0: Slot {
+            mode: mode0,
+            character: character0,
+        },
+        slot1: Slot {
+            mode: mode1,
+            character: character1,
+        },
+        factor,
+        lanes,
+        frames,
+        numbers,
+    }
 }
 
 #[unsafe(no_mangle)]
@@ -53,25 +81,21 @@ pub extern "C" fn probe_reads_lane(
         (control_buffers base0.now base1.now mod0.now mod1.now source0.now source1.now)
         curve.now inner.now fm.old fm.new last.now result }
 {
-    let s = Settings {
-        slot0: Slot {
-            mode: mode0,
-            character: character0,
-        },
-        slot1: Slot {
-            mode: mode1,
-            character: character1,
-        },
-        factor,
-        lanes,
-        frames,
-        numbers,
+    let s = settings(
+        mode0, mode1, character0, character1, factor, lanes, frames, numbers,
+    );
+    let controls = ControlSlices {
+        base0,
+        base1,
+        mod0,
+        mod1,
+        source0,
+        source1,
     };
     let r = Range { first, count };
-    shaper::reads_lane(
-        s, rate, active, lane, r, frame, word, step, base0, base1, mod0, mod1, source0, source1,
-        curve, inner, fm, last,
-    )
+    ReadsAnswer::from(shaper::reads_lane(
+        s, rate, active, lane, r, frame, word, step, &controls, curve, inner, fm, last,
+    ))
 }
 
 #[unsafe(no_mangle)]
@@ -104,22 +128,17 @@ pub extern "C" fn probe_shape_at_lane(
         (control_buffers base0.now base1.now mod0.now mod1.now source0.now source1.now)
         pairs.old last.old pairs.new last.new result }
 {
-    let s = Settings {
-        slot0: Slot {
-            mode: mode0,
-            character: character0,
-        },
-        slot1: Slot {
-            mode: mode1,
-            character: character1,
-        },
-        factor,
-        lanes,
-        frames,
-        numbers,
+    let s = settings(
+        mode0, mode1, character0, character1, factor, lanes, frames, numbers,
+    );
+    let controls = ControlSlices {
+        base0,
+        base1,
+        mod0,
+        mod1,
+        source0,
+        source1,
     };
     let r = Range { first, count };
-    shaper::shape_at_lane(
-        s, active, lane, r, frame, step, x, base0, base1, mod0, mod1, source0, source1, pairs, last,
-    )
+    Valued::from(shaper::shape_at_lane(s, active, lane, r, frame, step, x, &controls, pairs, last))
 }

@@ -1,15 +1,12 @@
 // The wave side: the curves, the filters, and a slot on one sample and over a run of them.
 ghost use Rattle.std.specs.Prelude.{◌≡◌, length};
-ghost use Rattle.floats.specs.Exp2.{entries};
 ghost use Rattle.wave.specs.Filter.{cutoff_harmonic, damping_of, filter_of};
 ghost use Rattle.wave.specs.Curve.{curve_of};
 ghost use Rattle.wave.specs.Integral.{integral_of};
 ghost use Rattle.wave.specs.Smooth.{drive_of, distort_of, distort_smooth};
 ghost use Rattle.probe.specs.Runs.{Ran};
-ghost use Rattle.probe.specs.Waves.{flag_of, slot_of, start_in, shaped_at, end_of, shape_length};
+ghost use Rattle.probe.specs.Waves.{heard_of, slot_of, start_in, shaped_at, end_of, shape_length};
 
-use crate::leaf::least;
-use floats::POWERS;
 use lanes::Numbers;
 use wave::{Filtered, Svf};
 
@@ -17,40 +14,35 @@ use wave::{Filtered, Svf};
 pub extern "C" fn probe_wave_curve(numbers: Numbers, mode: u32, x: f32) -> f32
     ensures { result ≡ curve_of numbers.sin mode x }
 {
-    let powers = POWERS;
-    wave::curve(&powers, numbers, mode, x)
+    wave::curve(numbers, mode, x)
 }
 
 #[unsafe(no_mangle)]
 pub extern "C" fn probe_wave_integral(numbers: Numbers, mode: u32, x: f32) -> f32
     ensures { result ≡ integral_of numbers.sin mode x }
 {
-    let powers = POWERS;
-    wave::integral(&powers, numbers, mode, x)
+    wave::integral(numbers, mode, x)
 }
 
 #[unsafe(no_mangle)]
 pub extern "C" fn probe_distort(numbers: Numbers, mode: u32, a: f32, x: f32) -> f32
     ensures { result ≡ distort_of numbers.sin mode a x }
 {
-    let powers = POWERS;
-    wave::distort(&powers, numbers, mode, a, x)
+    wave::distort(numbers, mode, a, x)
 }
 
 #[unsafe(no_mangle)]
 pub extern "C" fn probe_drive(mode: u32, a: f32) -> f32
     ensures { result ≡ drive_of mode a }
 {
-    let powers = POWERS;
-    wave::drive(&powers, mode, a)
+    wave::drive(mode, a)
 }
 
 #[unsafe(no_mangle)]
 pub extern "C" fn probe_cutoff_harmonic(mode: u32, a: f32) -> f32
     ensures { result ≡ cutoff_harmonic mode a }
 {
-    let powers = POWERS;
-    wave::cutoff_harmonic(&powers, mode, a)
+    wave::cutoff_harmonic(mode, a)
 }
 
 #[unsafe(no_mangle)]
@@ -85,37 +77,19 @@ pub extern "C" fn probe_distort_smooth(
 ) -> Filtered
     ensures { result ≡ distort_smooth numbers.sin mode a x state }
 {
-    let powers = POWERS;
-    wave::distort_smooth(&powers, numbers, mode, a, x, state)
+    wave::distort_smooth(numbers, mode, a, x, state)
 }
 
-// Whether a slot has a source: any word but 0 says so.
-fn flag(word: u32) -> bool
-    ensures { result ≡ flag_of word }
+// What a slot hears: `source`, unless `sourced` is 0.
+#[tactic(auto, unfolding(crate::specs::Waves::heard_of))]
+fn heard(sourced: u32, source: f32) -> Option<f32>
+    ensures { result ≡ heard_of sourced source }
 {
-    if word == 0 { false } else { true }
+    if sourced == 0 { None } else { Some(source) }
 }
 
 // A slot on one sample: its setting, and the sample shaped by it.
-fn slot(
-    powers: &[u32; 257],
-    numbers: Numbers,
-    mode: u32,
-    a: f32,
-    character: f32,
-    sourced: u32,
-    source: f32,
-    increment: f32,
-    x: f32,
-    state: Svf,
-) -> Filtered
-    requires { powers.now ≡ entries }
-    ensures { result ≡ slot_of numbers.sin mode a character sourced source increment x state }
-{
-    let setting = wave::setting_of(powers, mode, a, character, flag(sourced), source);
-    wave::shape(powers, numbers, mode, setting, increment, x, state)
-}
-
+#[tactic(auto, unfolding(crate::specs::Waves::slot_of))]
 #[unsafe(no_mangle)]
 pub extern "C" fn probe_shape(
     numbers: Numbers,
@@ -130,14 +104,13 @@ pub extern "C" fn probe_shape(
 ) -> Filtered
     ensures { result ≡ slot_of numbers.sin mode a character sourced source increment x state }
 {
-    let powers = POWERS;
-    slot(
-        &powers, numbers, mode, a, character, sourced, source, increment, x, state,
-    )
+    let setting = wave::setting_of(mode, a, character, heard(sourced, source));
+    wave::shape(numbers, mode, setting, increment, x, state)
 }
 
 // Each of `xs` through one slot, as far as `out` has room; how many they are. The slot's state is the first
-// two cells of `state`; where it has fewer, none are shaped.
+// two cells of `state`; where it has fewer, none are shaped. By index, as in leaf.rt.
+#[tactic(auto, unfolding(crate::specs::Waves::shape_length, crate::specs::Waves::end_of, crate::specs::Waves::slot_of, crate::specs::Waves::shaped_at, crate::specs::Waves::state_after, crate::specs::Waves::start_in), using(crate::proofs::Shaped::state_more, crate::proofs::Shaped::shaped))]
 #[unsafe(no_mangle)]
 pub extern "C" fn probe_shape_run(
     numbers: Numbers,
@@ -158,22 +131,18 @@ pub extern "C" fn probe_shape_run(
     if state.len() < 2 {
         return 0;
     }
-    let powers = POWERS;
-    let n = least(xs.len(), out.len());
+    let n = xs.len().min(out.len());
+    let setting = wave::setting_of(mode, a, character, heard(sourced, source));
     let mut s = Svf {
         ic1: state[0],
         ic2: state[1],
     };
-    let mut i = 0;
-    while i < n {
-        let shaped = slot(
-            &powers, numbers, mode, a, character, sourced, source, increment, xs[i], s,
-        );
+    for i in 0..n {
+        let shaped = wave::shape(numbers, mode, setting, increment, xs[i], s);
         out[i] = shaped.y;
         s = shaped.state;
-        i += 1;
     }
     state[0] = s.ic1;
     state[1] = s.ic2;
-    i
+    n
 }

@@ -6,23 +6,33 @@ ghost use Rattle.reads.specs.Branches.{kind_of, Makes, pushed, pushed_weighted, 
 
 use lanes::{above, any, pick, pick_word};
 
-// The kinds of branches: the first read, with no gain of its own; the first, weighted; both, weighted.
-pub const KIND_ONE: u32 = 0;
+// How many of two reads there are, and whether their gains count.
+#[derive(Clone, Copy, Debug, PartialEq, Eq)]
+pub enum BranchKind {
+    // The first, with no gain of its own.
+    One,
+    // The first, weighted.
+    Weighted,
+    // Both, weighted.
+    Both,
+}
 
-pub const KIND_WEIGHTED: u32 = 1;
-
-pub const KIND_BOTH: u32 = 2;
+// A read of the cycle at a phase word, and its gain.
+#[derive(Clone, Copy)]
+pub struct Read {
+    pub word: u32,
+    pub gain: f32,
+}
 
 #[derive(Clone, Copy)]
 pub struct Branches {
-    pub word0: u32,
-    pub gain0: f32,
-    pub word1: u32,
-    pub gain1: f32,
-    pub kind: u32,
+    pub first: Read,
+    pub second: Read,
+    pub kind: BranchKind,
 }
 
-// Whether a pair's first branch, `a` weighted `wa`, comes before `b`: 1 or 0.
+// Whether a pair's first branch, `a` weighted `wa`, comes before `b`: 1 or 0, a mask for `pick`.
+#[tactic(auto, unfolding(crate::specs::Reads::a_first))]
 fn a_first(wa: f32) -> f32
     ensures { result ≡ a_first wa }
 {
@@ -30,53 +40,51 @@ fn a_first(wa: f32) -> f32
 }
 
 // A pair's kind: of two where the second has any weight.
-fn kind_of(weight: f32) -> u32
+#[tactic(auto, unfolding(crate::specs::Branches::kind_of), using(floats::specs::Steps::by_taken, floats::specs::Steps::by_left))]
+fn kind_of(weight: f32) -> BranchKind
     ensures { result ≡ kind_of weight }
 {
     if any(weight) {
-        KIND_BOTH
+        BranchKind::Both
     } else {
-        KIND_WEIGHTED
+        BranchKind::Weighted
     }
 }
 
 impl Branches {
     // One read, with the gain that it came with.
-    pub fn one(word: u32, gain: f32) -> Branches
-        ensures { Makes result (pushed word gain) }
+    #[tactic(auto, unfolding(crate::specs::Branches::appended, crate::specs::Branches::appended_as))]
+    pub fn one(read: Read) -> Branches
+        ensures { Makes result (pushed read) }
     {
         Branches {
-            word0: word,
-            gain0: gain,
-            word1: word,
-            gain1: gain,
-            kind: KIND_ONE,
+            first: read,
+            second: read,
+            kind: BranchKind::One,
         }
     }
 
     // One read whose gain counts.
-    pub fn weighted(word: u32, gain: f32) -> Branches
-        ensures { Makes result (pushed_weighted word gain) }
+    #[tactic(auto, unfolding(crate::specs::Branches::appended, crate::specs::Branches::appended_as))]
+    pub fn weighted(read: Read) -> Branches
+        ensures { Makes result (pushed_weighted read) }
     {
         Branches {
-            word0: word,
-            gain0: gain,
-            word1: word,
-            gain1: gain,
-            kind: KIND_WEIGHTED,
+            first: read,
+            second: read,
+            kind: BranchKind::Weighted,
         }
     }
 
     // Two reads whose gains count.
-    pub fn both(word0: u32, gain0: f32, word1: u32, gain1: f32) -> Branches
-        ensures { Makes result (pushed_both word0 gain0 word1 gain1) }
+    #[tactic(auto, unfolding(crate::specs::Branches::appended, crate::specs::Branches::appended_as))]
+    pub fn both(first: Read, second: Read) -> Branches
+        ensures { Makes result (pushed_both first second) }
     {
         Branches {
-            word0,
-            gain0,
-            word1,
-            gain1,
-            kind: KIND_BOTH,
+            first,
+            second,
+            kind: BranchKind::Both,
         }
     }
 
@@ -93,10 +101,14 @@ impl Branches {
         let second_weight = 1.0 - first_weight;
         let kind = kind_of(second_weight);
         Branches {
-            word0: first,
-            gain0: first_weight * gain,
-            word1: second,
-            gain1: second_weight * gain,
+            first: Read {
+                word: first,
+                gain: first_weight * gain,
+            },
+            second: Read {
+                word: second,
+                gain: second_weight * gain,
+            },
             kind,
         }
     }

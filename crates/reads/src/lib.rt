@@ -1,9 +1,12 @@
 // Read lists (`ReadList` of phase.rs, `LaneReads` of osc/mod.rs): up to four reads of the cycle with their
-// gains, moved on by an offset, and what they add up to; and the one or two reads that a map makes of one.
+// gains, moved on by an offset; what they add up to, read in the lent cycle; and the one or two reads that
+// a map makes of one.
 #![tactic(auto)]
 
 pub mod branches;
+pub mod cycle;
 pub mod lists;
 
-pub use branches::{Branches, KIND_BOTH, KIND_ONE};
-pub use lists::{LaneReads, MAX_READS, ReadList, outgoing, read_cycle, read_sum, shift};
+pub use branches::{BranchKind, Branches, Read};
+pub use cycle::Cycle;
+pub use lists::{LaneReads, MAX_READS, ReadList};

@@ -23,8 +23,8 @@ use Rattle.render.specs.declared.state.BlockSettings.{BlockSettings}
 use Rattle.render.specs.declared.state.Voice.{Voice}
 use Rattle.render.specs.declared.state.Stepped.{Stepped}
 use Rattle.render.specs.declared.state.HostFrame.{HostFrame}
-use Rattle.render.specs.Lane.{Lent, Inputs, inputs_of, step_at, voice_after, sample_at}
-use Rattle.render.specs.Frames.{frame_of, drive_at, host_at, frame_at, Powered, Cut, Frames, Ran}
+use Rattle.render.specs.Lane.{Lent, Inputs, inputs_in, step_at, voice_after, sample_at}
+use Rattle.render.specs.Frames.{frame_of, drive_at, host_at, frame_at, Powered, Frames, Ran}
 use Rattle.render.proofs.InputLaws.{inputs_controls, inputs_inner, inputs_curve, inputs_cycle, inputs_words, inputs_steps}
 use Rattle.render.proofs.VoiceLaws.{voice_none, voice_more, voice_add, sample_is, sample_add}
 
@@ -118,31 +118,31 @@ abbrev block_of : Settings → ℕ → Designs → BlockSettings
 block_of s rate designs = record { shaper = s; rate = rate; designs = designs }
 
 module _ (s : Settings) (scale : Float) (l : Lent) (lane host row : ℕ) where
-  stepped : (rate : ℕ) (designs : Designs) (h : HostFrame) (sub : ℕ) (v : Voice) (r : Stepped) → Cut (length l.curve) (length l.cycle) → sub < s.factor
+  stepped : (rate : ℕ) (designs : Designs) (h : HostFrame) (sub : ℕ) (v : Voice) (r : Stepped) → sub < s.factor
       → scale ≡ fm_scale rate s.factor → h ≡ held_of s l lane host → r ≡ stepped_of s scale l lane host h sub v
-      → r ≡ step_at (block_of s rate designs) (inputs_of s l lane) (host * s.factor + sub) v
-  stepped rate designs h sub v r cut less reach held did =
+      → r ≡ step_at (block_of s rate designs) (inputs_in s l lane) (host * s.factor + sub) v
+  stepped rate designs h sub v r less reach held did =
       rw (did, held, reach)
       (sym
-      (step_by (block_of s rate designs) (inputs_of s l lane) host sub v _ _ _ _ _ _ less (inputs_controls s l lane) (inputs_inner s l lane)
-      (inputs_curve s l lane cut.entries) (inputs_cycle s l lane cut.samples) (inputs_words s l lane) (inputs_steps s l lane)))
+      (step_by (block_of s rate designs) (inputs_in s l lane) host sub v _ _ _ _ _ _ less (inputs_controls s l lane) (inputs_inner s l lane)
+      (inputs_curve s l lane) (inputs_cycle s l lane) (inputs_words s l lane) (inputs_steps s l lane)))
 
-  pub ran_none : (v : Voice) (work : List Float) → Ran s scale (inputs_of s l lane) lane (host * s.factor) row 0 v v work work
+  pub ran_none : (v : Voice) (work : List Float) → Ran s scale (inputs_in s l lane) lane (host * s.factor) row 0 v v work work
   ran_none v work rate designs reach = frames_none
 
-  pub ran_more : {k : ℕ} {h : HostFrame} {v v' : Voice} {work work' : List Float} (r : Stepped) → Cut (length l.curve) (length l.cycle) → lane < s.lanes → k < s.factor
+  pub ran_more : {k : ℕ} {h : HostFrame} {v v' : Voice} {work work' : List Float} (r : Stepped) → lane < s.lanes → k < s.factor
       → (row + k) * s.lanes + lane < length work' → h ≡ held_of s l lane host → r ≡ stepped_of s scale l lane host h k v'
-      → Ran s scale (inputs_of s l lane) lane (host * s.factor) row k v v' work work'
-      → Ran s scale (inputs_of s l lane) lane (host * s.factor) row (k + 1) v r.voice work (set work' ((row + k) * s.lanes + lane) r.sample)
-  ran_more {k} {h} {v' = v'} r cut hl less at held did was rate designs reach =
-      frames_more r hl at (was rate designs reach) (stepped rate designs h k v' r cut less reach held did)
+      → Ran s scale (inputs_in s l lane) lane (host * s.factor) row k v v' work work'
+      → Ran s scale (inputs_in s l lane) lane (host * s.factor) row (k + 1) v r.voice work (set work' ((row + k) * s.lanes + lane) r.sample)
+  ran_more {k} {h} {v' = v'} r hl less at held did was rate designs reach =
+      frames_more r hl at (was rate designs reach) (stepped rate designs h k v' r less reach held did)
 
   -- all frames of a host frame
   pub ran_done : (k : ℕ) (v v' : Voice) (work work' : List Float) → k ≡ s.factor
-      → Ran s scale (inputs_of s l lane) lane (host * s.factor) row k v v' work work'
-      → Ran s scale (inputs_of s l lane) lane (host * s.factor) row s.factor v v' work work'
+      → Ran s scale (inputs_in s l lane) lane (host * s.factor) row k v v' work work'
+      → Ran s scale (inputs_in s l lane) lane (host * s.factor) row s.factor v v' work work'
   ran_done k v v' work work' e was =
-      subst (λ (j : ℕ). Ran s scale (inputs_of s l lane) lane (host * s.factor) row j v v' work work') e was
+      subst (λ (j : ℕ). Ran s scale (inputs_in s l lane) lane (host * s.factor) row j v v' work work') e was
 
 -- ---- host frame after host frame
 

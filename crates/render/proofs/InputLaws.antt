@@ -1,14 +1,13 @@
--- The laws of a lane's inputs: the numbers that the program reads, and tables that are cut. Assumes nothing.
+-- The laws of a lane's inputs: the numbers that the program reads. Assumes nothing.
 use mathlib.Core.Path.{◌≡◌, refl, ◌∙◌}
 use mathlib.Core.List.{List}
 use Prim.Native.Nat.{ℕ, ◌+◌, ◌*◌, ◌/◌, ◌≤◌, ◌<◌}
 use native.Mathlib.Nat.{mul-le-mul, mul-le-mul_right}
 use native.Mathlib.Omega.{arith}
 use lib.ListN.{length, get_or}
-use lib.Seq.{take_all}
 use lib.Ieee.{nan}
 use Rattle.grid.specs.Cells.{column}
-use Rattle.grid.proofs.CellLaws.{col_at, get_d-column}
+use Rattle.grid.proofs.CellLaws.{col_at, get_or-column}
 use Rattle.grid.proofs.Index.{row_in, whole_row}
 use Rattle.limits.specs.Lengths.{spans_of}
 use Rattle.limits.proofs.LengthLaws.{span_in}
@@ -17,13 +16,13 @@ use Rattle.controls.specs.Places.{Spot}
 use Rattle.shaper.specs.declared.settings.Settings.{Settings}
 use Rattle.shaper.specs.declared.settings.Range.{Range}
 use Rattle.render.specs.declared.state.BlockSettings.{BlockSettings}
-use Rattle.render.specs.Lane.{Lent, inputs_of}
+use Rattle.render.specs.Lane.{Lent, inputs_in}
 use Rattle.render.specs.Promises.{Limits, Readable}
 use Rattle.render.specs.Frames.{Hosted, Framed, Room}
 
 -- the number that the program reads in a row of a lane
 pub row_read : {A : Type 0} (d : A) (n lane rows row : ℕ) (xs : List A) → row < rows → get_or (column d n lane rows xs) row d ≡ get_or xs (row * n + lane) d
-row_read d n lane rows row xs h = get_d-column d n lane rows xs row h ∙ col_at d n lane xs row
+row_read d n lane rows row xs h = get_or-column d n lane rows xs row h ∙ col_at d n lane xs row
 
 -- ---- where they lie
 
@@ -58,7 +57,7 @@ module _ {s : Settings} {lane host row work : ℕ} (room : Room s lane host row 
 
   -- what it reads
   pub framed : {l : Lent} → Readable s l
-      → Framed s lane host sub (length l.controls.source0) (length l.controls.source1) (length l.curve) (length l.cycle) (length l.words) (length l.steps)
+      → Framed s lane host sub (length l.controls.source0) (length l.controls.source1) (length l.words) (length l.steps)
   framed {l} readable =
       let q = host * s.factor + sub in
       let at : q * s.lanes + lane < s.frames * s.factor * s.lanes = row_in q (s.frames * s.factor) lane s.lanes frame_in room.spot.inside in
@@ -67,8 +66,6 @@ module _ {s : Settings} {lane host row work : ℕ} (room : Room s lane host row 
         spot = room.spot;
         held0 = readable.controls.source0;
         held1 = readable.controls.source1;
-        entries = readable.curve;
-        samples = readable.cycle;
         inside = frame_in;
         few = frames_few;
         near = omega (arith, mul-le-mul last room.spot.few, room.spot.inside, room.spot.few);
@@ -110,27 +107,26 @@ module _ {b : BlockSettings} {r : Range} (limits : Limits b r) (k : ℕ) (less :
 -- ---- as the code takes them
 
 module _ (s : Settings) (l : Lent) (lane : ℕ) where
-  pub inputs_controls : (inputs_of s l lane).controls ≡ controls_of s.lanes lane s.frames l.controls
-  unfolding inputs_of
+  pub inputs_controls : (inputs_in s l lane).controls ≡ controls_of s.lanes lane s.frames l.controls
+  unfolding inputs_in
   inputs_controls = refl
 
-  pub inputs_inner : (inputs_of s l lane).inner ≡ column nan s.lanes lane (spans_of s.frames) l.inner
-  unfolding inputs_of
+  pub inputs_inner : (inputs_in s l lane).inner ≡ column nan s.lanes lane (spans_of s.frames) l.inner
+  unfolding inputs_in
   inputs_inner = refl
 
-  pub inputs_words : (inputs_of s l lane).words ≡ column 0 s.lanes lane (s.frames * s.factor) l.words
-  unfolding inputs_of
+  pub inputs_words : (inputs_in s l lane).words ≡ column 0 s.lanes lane (s.frames * s.factor) l.words
+  unfolding inputs_in
   inputs_words = refl
 
-  pub inputs_steps : (inputs_of s l lane).steps ≡ column 0 s.lanes lane (s.frames * s.factor) l.steps
-  unfolding inputs_of
+  pub inputs_steps : (inputs_in s l lane).steps ≡ column 0 s.lanes lane (s.frames * s.factor) l.steps
+  unfolding inputs_in
   inputs_steps = refl
 
-  -- a table that is cut already
-  pub inputs_curve : length l.curve ≡ 1025 → (inputs_of s l lane).curve ≡ l.curve
-  unfolding inputs_of
-  inputs_curve e = take_all 1025 l.curve (omega arith)
+  pub inputs_curve : (inputs_in s l lane).curve ≡ l.curve
+  unfolding inputs_in
+  inputs_curve = refl
 
-  pub inputs_cycle : length l.cycle ≡ 2048 → (inputs_of s l lane).cycle ≡ l.cycle
-  unfolding inputs_of
-  inputs_cycle e = take_all 2048 l.cycle (omega arith)
+  pub inputs_cycle : (inputs_in s l lane).cycle ≡ l.cycle
+  unfolding inputs_in
+  inputs_cycle = refl

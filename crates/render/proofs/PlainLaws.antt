@@ -12,7 +12,7 @@ use Rattle.grid.specs.Functions.{span}
 use Rattle.grid.specs.Cells.{col, columns}
 use Rattle.grid.specs.Lanes.{Each}
 use Rattle.grid.proofs.FunctionLaws.{span_by, span_in, span_above, span_none, span_more}
-use Rattle.grid.proofs.CellLaws.{col_at, col_set, col_set_other, get_d-column}
+use Rattle.grid.proofs.CellLaws.{col_at, col_set, col_set_other, get_or-column}
 use Rattle.grid.proofs.EachLaws.{each_one, one_lane, one_others}
 use Rattle.grid.proofs.Index.{row_in}
 use Rattle.reads.specs.Reads.{one_read, cycle_at, read_sum}
@@ -25,9 +25,9 @@ use Rattle.shaper.specs.Lane.{reads_at, shaped_at}
 use Rattle.render.specs.declared.state.BlockSettings.{BlockSettings}
 use Rattle.render.specs.declared.state.Voice.{Voice}
 use Rattle.render.specs.declared.state.Stepped.{Stepped}
-use Rattle.render.specs.Lane.{Lent, Inputs, inputs_of, step_at, voice_after, sample_at, first_frame, frame_count}
+use Rattle.render.specs.Lane.{Lent, Inputs, inputs_in, step_at, voice_after, sample_at, first_frame, frame_count}
 use Rattle.render.specs.Promises.{Limits, Readable}
-use Rattle.render.specs.Frames.{Cut, Frames}
+use Rattle.render.specs.Frames.{Frames}
 use Rattle.render.specs.Plain.{is_plain, cycle_read, Unshaped}
 use Rattle.render.proofs.InputLaws.{inputs_cycle, inputs_words}
 use Rattle.render.proofs.VoiceLaws.{sample_is}
@@ -85,22 +85,12 @@ module _ (from n lane : ℕ) (cycle : List Float) (words : List ℕ) where
       (λ m hm ne. col_set_other nan n m work' lane k x hm hl ne ∙ one_others was m hm ne)
 
 -- where they lie
-module _ {from count n lane cycle words work : ℕ} (rows : Unshaped from count n lane cycle words work) (k : ℕ) (less : k < count) where
+module _ {from count n words work : ℕ} (rows : Unshaped from count n words work) (lane : ℕ) (inside : lane < n) (k : ℕ) (less : k < count) where
   pub word_in : (from + k) * n + lane < words
-  word_in = omega (arith, row_in (from + k) (from + count) lane n (omega arith) rows.inside, rows.read)
-
-  pub word_near : (from + k) * n + lane < 2097152
-  word_near =
-      let last : from + k ≤ 32767 = omega (arith, rows.frames) in
-      omega (arith, mul-le-mul last rows.few, rows.inside, rows.few)
+  word_in = omega (arith, row_in (from + k) (from + count) lane n (omega arith) inside, rows.read)
 
   pub work_in : k * n + lane < work
-  work_in = omega (arith, row_in k count lane n less rows.inside, rows.written)
-
-  pub work_near : k * n + lane < 2097152
-  work_near =
-      let last : k ≤ 32767 = omega (arith, rows.frames) in
-      omega (arith, mul-le-mul last rows.few, rows.inside, rows.few)
+  work_in = omega (arith, row_in k count lane n less inside, rows.written)
 
 -- ---- the range
 
@@ -113,33 +103,30 @@ module _ {b : BlockSettings} {r : Range} (limits : Limits b r) (l : Lent) (lane 
   frames_few = mul-le-mul limits.frames limits.factor_most
 
   pub unshaped : (work : ℕ) → r.count * b.shaper.factor * b.shaper.lanes ≤ work
-      → Unshaped (r.first * b.shaper.factor) (r.count * b.shaper.factor) b.shaper.lanes lane (length l.cycle) (length l.words) work
+      → Unshaped (r.first * b.shaper.factor) (r.count * b.shaper.factor) b.shaper.lanes (length l.words) work
   unshaped work held =
       record {
-        inside = hl;
-        few = limits.lanes;
         frames = omega (arith, frames_in, frames_few);
-        samples = readable.cycle;
         read = omega (arith, mul-le-mul_right b.shaper.lanes frames_in, readable.words);
         written = held;
       }
 
   -- what the reads promise is the frames' promise
-  pub plain_frames : (v : Voice) (work work' : List Float) → Cut (length l.curve) (length l.cycle)
+  pub plain_frames : (v : Voice) (work work' : List Float)
       → Neither b.shaper.slot0.mode b.shaper.slot1.mode → length work' ≡ length work
       → ReadTo (r.first * b.shaper.factor) b.shaper.lanes lane l.cycle l.words (r.count * b.shaper.factor) work work'
-      → Frames b (inputs_of b.shaper l lane) lane (first_frame b r) 0 (frame_count b r) v v work work'
+      → Frames b (inputs_in b.shaper l lane) lane (first_frame b r) 0 (frame_count b r) v v work work'
   unfolding cycle_read
-  plain_frames v work work' cut plain size reads =
+  plain_frames v work work' plain size reads =
       let n = b.shaper.lanes in
       let s = b.shaper in
-      let i = inputs_of s l lane in
+      let i = inputs_in s l lane in
       let from = first_frame b r in
       let count = frame_count b r in
       let f = sample_at b i from v in
       let read : (k : ℕ) → k < count → cycle_read from n lane l.cycle l.words k ≡ f k = λ k h.
       sym (plain_sample b i plain from v k
-      ∙ rw (inputs_cycle s l lane cut.samples, inputs_words s l lane, get_d-column 0 n lane (s.frames * s.factor) l.words (from + k) (omega (arith, frames_in)))) in
+      ∙ rw (inputs_cycle s l lane, inputs_words s l lane, get_or-column 0 n lane (s.frames * s.factor) l.words (from + k) (omega (arith, frames_in)))) in
       record {
         size = size;
         voice = sym (plain_voice b i plain from v count);

@@ -7,7 +7,7 @@ use Rattle.floats.specs.Steps.{◌>>=◌}
 use Rattle.grid.specs.Functions.{span}
 use Rattle.grid.specs.Cells.{columns}
 use Rattle.grid.specs.Lanes.{Each}
-use Rattle.limits.specs.Lengths.{sub_block, host_length, span_length, curve_length, cycle_length, Holds}
+use Rattle.limits.specs.Lengths.{sub_block, host_length, span_length, Holds}
 use Rattle.halfband.specs.declared.design.Designs.{Designs}
 use Rattle.phase.specs.declared.map.Slot.{Slot}
 use Rattle.reads.specs.Reads.{cycle_at}
@@ -16,7 +16,7 @@ use Rattle.voice.specs.PhaseRun.{fm_scale, reads_of}
 use Rattle.voice.specs.SumRun.{summed_of}
 use Rattle.voice.specs.WaveRun.{shaped_of}
 use Rattle.voice.specs.Power.{power_of}
-use Rattle.controls.specs.Controls.{is_given, amount_at, heard_at}
+use Rattle.controls.specs.Controls.{amount_at, heard_at}
 use Rattle.controls.specs.Places.{Spot}
 use Rattle.shaper.specs.declared.settings.Settings.{Settings}
 use Rattle.render.specs.declared.state.BlockSettings.{BlockSettings}
@@ -60,7 +60,7 @@ host_at s base0 base1 mod0 mod1 inner host =
 -- a slot's amount, and what it hears
 abbrev pub heard_control : ℕ → Settings → Float → Option (List Float) → Float → ℕ → ℕ → Control
 heard_control mode s amount source last host sub =
-    record { amount = amount; sourced = is_given source; source = heard_at mode s.factor s.frames source last host sub }
+    record { amount = amount; source = heard_at mode s.factor s.frames source last host sub }
 
 -- rendered frame `sub` of host frame `host`
 unfoldable pub frame_at : Settings → Float → HostFrame → Option (List Float) → Option (List Float) → List Float → List Float → List ℕ → List ℕ → ℕ → ℕ → Voice → Stepped
@@ -92,22 +92,15 @@ pub record Hosted (s : Settings) (lane host base0 base1 mod0 mod1 inner : ℕ) :
 
 -- a rendered frame of a lane: its cells of words and steps are there. 4,096 host frames at factor 8 are 32,768 rendered, which are 2,097,152 cells
 -- of 64 lanes
-pub record Framed (s : Settings) (lane host sub source0 source1 curve cycle words steps : ℕ) : Type 0 where
+pub record Framed (s : Settings) (lane host sub source0 source1 words steps : ℕ) : Type 0 where
   pub spot : Spot s.frames s.lanes lane host
   pub held0 : Holds (host_length s.frames s.lanes) source0
   pub held1 : Holds (host_length s.frames s.lanes) source1
-  pub entries : curve_length ≤ curve
-  pub samples : cycle_length ≤ cycle
   pub inside : host * s.factor + sub < s.frames * s.factor
   pub few : s.frames * s.factor ≤ 32768
   pub near : (host * s.factor + sub) * s.lanes + lane < 2097152
   pub word : (host * s.factor + sub) * s.lanes + lane < words
   pub step : (host * s.factor + sub) * s.lanes + lane < steps
-
--- tables that are cut to what line 7 asks for
-pub record Cut (curve cycle : ℕ) : Type 0 where
-  pub entries : curve ≡ curve_length
-  pub samples : cycle ≡ cycle_length
 
 -- the work rows of a host frame
 pub record Room (s : Settings) (lane host row work : ℕ) : Type 0 where

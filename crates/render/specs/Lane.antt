@@ -44,6 +44,18 @@ inputs_of s r lane =
       cycle = take cycle_length r.cycle;
     }
 
+-- the same with the tables whole
+unfoldable pub inputs_in : Settings → Lent → ℕ → Inputs
+inputs_in s r lane =
+    record {
+      controls = lane_controls s r.controls lane;
+      inner = column nan s.lanes lane (spans_of s.frames) r.inner;
+      words = column 0 s.lanes lane (s.frames * s.factor) r.words;
+      steps = column 0 s.lanes lane (s.frames * s.factor) r.steps;
+      curve = r.curve;
+      cycle = r.cycle;
+    }
+
 -- a lane's filter pairs, FM carry and `last`, from its columns
 abbrev pub voice_of : (ℕ → Float) → (ℕ → Float) → (ℕ → Float) → Voice
 voice_of pairs fm last = record { pairs0 = pair0 pairs; pairs1 = pair1 pairs; fm0 = fm 0; fm1 = fm 1; last = last 0 }

@@ -3,3 +3,4 @@ pub mod Lane
 pub mod Promises
 pub mod Frames
 pub mod Plain
+pub mod Slices

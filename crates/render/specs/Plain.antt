@@ -1,7 +1,6 @@
 -- A lane that no slot shapes. Definitions only.
-use Rattle.std.specs.Prelude.{Bool, not, ◌||◌, ◌&&◌, List, ℕ, ◌+◌, ◌*◌, ◌≤◌, ◌<◌, Float}
+use Rattle.std.specs.Prelude.{Bool, not, ◌||◌, ◌&&◌, List, ℕ, ◌+◌, ◌*◌, ◌≤◌, Float}
 use Rattle.grid.specs.Cells.{col}
-use Rattle.limits.specs.Lengths.{cycle_length}
 use Rattle.reads.specs.Reads.{cycle_at}
 use Rattle.wave.specs.Slot.{in_wave}
 use Rattle.voice.specs.PhaseRun.{in_phase}
@@ -15,10 +14,7 @@ unfoldable pub cycle_read : ℕ → ℕ → ℕ → List Float → List ℕ → 
 cycle_read from n l cycle words k = cycle_at cycle (col 0 n l words (from + k))
 
 -- what a run of such frames asks for
-pub record Unshaped (from count n lane cycle words work : ℕ) : Type 0 where
-  pub inside : lane < n
-  pub few : n ≤ 64
+pub record Unshaped (from count n words work : ℕ) : Type 0 where
   pub frames : from + count ≤ 32768
-  pub samples : cycle_length ≤ cycle
   pub read : (from + count) * n ≤ words
   pub written : count * n ≤ work

@@ -1,28 +1,27 @@
 // One rendered frame of one lane.
-ghost use Rattle.std.specs.Prelude.{◌≡◌, ◌*◌, ◌≤◌, length, false};
-ghost use Rattle.floats.specs.Exp2.{entries};
+ghost use Rattle.std.specs.Prelude.{◌≡◌, ◌*◌, length, false};
 ghost use Rattle.grid.specs.Cells.{column};
-ghost use Rattle.limits.specs.Lengths.{curve_length, cycle_length};
 ghost use Rattle.voice.specs.Power.{power_of};
 ghost use Rattle.voice.specs.WaveRun.{has_state};
 ghost use Rattle.controls.specs.Controls.{lent_of};
 ghost use Rattle.render.specs.Frames.{frame_of, frame_at, Levelled, Powered, Framed};
 
+use crate::lent::Rows;
 use crate::state::{HostFrame, Stepped, Voice};
-use controls::heard_at;
-use grid::place;
-use phase::Slot;
-use reads::read_cycle;
+use controls::LaneFrame;
+use curve::Curve;
+use grid::Lane;
+use phase::{Slot, Tables};
+use reads::Cycle;
 use shaper::Settings;
 use voice::{Control, has_state, in_phase, shape_level, shape_of, sum_of};
 
 // `frame_of` where a slot maps or has a state: it takes the sine's and the arctangent's numbers.
 fn full_frame(
-    powers: &[u32; 257],
     s: Settings,
     scale: f32,
-    curve: &[f32],
-    cycle: &[f32],
+    curve: Curve<'_>,
+    cycle: Cycle<'_>,
     control0: Control,
     control1: Control,
     power0: f32,
@@ -32,39 +31,34 @@ fn full_frame(
     step: u32,
     v: Voice,
 ) -> Stepped
-    requires powers_value_1 { powers.now ≡ entries }
-    requires powers_value_2 { curve_length ≤ length curve.now }
-    requires powers_value_3 { cycle_length ≤ length cycle.now }
-    requires power0_value_1 { power0 ≡ power_of s.slot0.mode control0.amount }
-    requires power0_value_2 { power1 ≡ power_of s.slot1.mode control1.amount }
-    ensures { result ≡ frame_of s scale curve.now cycle.now control0 control1 inner word step v }
+    requires power0 { power0 ≡ power_of s.slot0.mode control0.amount }
+    requires power1 { power1 ≡ power_of s.slot1.mode control1.amount }
+    ensures { result ≡ frame_of s scale curve.entry.values.now cycle.entry.samples.now control0 control1 inner word step v }
 {
-    let numbers = s.numbers;
-    let slot0 = s.slot0;
-    let slot1 = s.slot1;
+    let Settings {
+        slot0,
+        slot1,
+        numbers,
+        ..
+    } = s;
+    let tables = Tables { numbers, curve };
     let raw = sum_of(
-        powers, numbers, curve, cycle, slot0, slot1, s.factor, scale, control0, control1, power0,
-        power1, inner, word, step, v.fm0, v.fm1,
+        tables, cycle, slot0, slot1, s.factor, scale, control0, control1, power0, power1, inner,
+        word, step, v.fm0, v.fm1,
     );
-    let x = raw.x;
-    let before0 = v.pairs0;
-    let before1 = v.pairs1;
     let shaped = shape_of(
-        powers, numbers, slot0, slot1, control0, control1, power0, power1, step, x, before0,
-        before1, v.last,
+        numbers, slot0, slot1, control0, control1, power0, power1, step, raw.x, v.pairs0, v.pairs1,
+        v.last,
     );
-    let pairs0 = shaped.pairs0;
-    let pairs1 = shaped.pairs1;
-    let voice = Voice {
-        pairs0: pairs0,
-        pairs1: pairs1,
-        fm0: raw.fm0,
-        fm1: raw.fm1,
-        last: shaped.last,
-    };
     Stepped {
         sample: shaped.y,
-        voice: voice,
+        voice: Voice {
+            pairs0: shaped.pairs0,
+            pairs1: shaped.pairs1,
+            fm0: raw.fm0,
+            fm1: raw.fm1,
+            last: shaped.last,
+        },
     }
 }
 
@@ -72,35 +66,28 @@ fn full_frame(
 fn level_frame(
     slot0: Slot,
     slot1: Slot,
-    cycle: &[f32],
+    cycle: Cycle<'_>,
     control0: Control,
     control1: Control,
     word: u32,
     v: Voice,
 ) -> Stepped
-    requires fact_1 { cycle_length ≤ length cycle.now }
-    requires fact_2 { has_state slot0.mode ≡ false }
-    requires fact_3 { has_state slot1.mode ≡ false }
-    ensures { Levelled result slot0 slot1 cycle.now control0 control1 word v }
+    requires stateless0 { has_state slot0.mode ≡ false }
+    requires stateless1 { has_state slot1.mode ≡ false }
+    ensures { Levelled result slot0 slot1 cycle.entry.samples.now control0 control1 word v }
 {
-    let x = read_cycle(cycle, word);
-    let before0 = v.pairs0;
-    let before1 = v.pairs1;
+    let x = cycle.read(word);
     let shaped = shape_level(
-        slot0, slot1, control0, control1, x, before0, before1, v.last,
+        slot0, slot1, control0, control1, x, v.pairs0, v.pairs1, v.last,
     );
-    let pairs0 = shaped.pairs0;
-    let pairs1 = shaped.pairs1;
-    let voice = Voice {
-        pairs0: pairs0,
-        pairs1: pairs1,
-        fm0: v.fm0,
-        fm1: v.fm1,
-        last: shaped.last,
-    };
     Stepped {
         sample: shaped.y,
-        voice: voice,
+        voice: Voice {
+            pairs0: shaped.pairs0,
+            pairs1: shaped.pairs1,
+            last: shaped.last,
+            ..v
+        },
     }
 }
 
@@ -108,11 +95,10 @@ fn level_frame(
 // sine's and the arctangent's numbers are copied where they are taken, so that slots which need none are
 // spared it.
 fn frame_of(
-    powers: &[u32; 257],
     s: Settings,
     scale: f32,
-    curve: &[f32],
-    cycle: &[f32],
+    curve: Curve<'_>,
+    cycle: Cycle<'_>,
     control0: Control,
     control1: Control,
     power0: f32,
@@ -122,12 +108,9 @@ fn frame_of(
     step: u32,
     v: Voice,
 ) -> Stepped
-    requires powers_value_1 { powers.now ≡ entries }
-    requires powers_value_2 { curve_length ≤ length curve.now }
-    requires powers_value_3 { cycle_length ≤ length cycle.now }
-    requires power0_value_1 { power0 ≡ power_of s.slot0.mode control0.amount }
-    requires power0_value_2 { power1 ≡ power_of s.slot1.mode control1.amount }
-    ensures { result ≡ frame_of s scale curve.now cycle.now control0 control1 inner word step v }
+    requires power0 { power0 ≡ power_of s.slot0.mode control0.amount }
+    requires power1 { power1 ≡ power_of s.slot1.mode control1.amount }
+    ensures { result ≡ frame_of s scale curve.entry.values.now cycle.entry.samples.now control0 control1 inner word step v }
 {
     let slot0 = s.slot0;
     let slot1 = s.slot1;
@@ -135,8 +118,7 @@ fn frame_of(
     let stated = has_state(slot0.mode) | has_state(slot1.mode);
     if mapped | stated {
         return full_frame(
-            powers, s, scale, curve, cycle, control0, control1, power0, power1, inner, word, step,
-            v,
+            s, scale, curve, cycle, control0, control1, power0, power1, inner, word, step, v,
         );
     }
     level_frame(slot0, slot1, cycle, control0, control1, word, v)
@@ -144,7 +126,6 @@ fn frame_of(
 
 // Rendered frame `sub` of host frame `host`.
 pub fn frame_at(
-    powers: &[u32; 257],
     s: Settings,
     scale: f32,
     lane: usize,
@@ -152,49 +133,44 @@ pub fn frame_at(
     sub: u32,
     h: HostFrame,
     v: Voice,
-    source0: &[f32],
-    source1: &[f32],
-    curve: &[f32],
-    cycle: &[f32],
-    words: &[u32],
-    steps: &[u32],
+    rows: &Rows<'_>,
+    curve: Curve<'_>,
+    cycle: Cycle<'_>,
 ) -> Stepped
-    requires fact_1 { powers.now ≡ entries }
-    requires fact_2 { Powered s h }
-    requires fact_3 { Framed s lane host sub
-        (length source0.now) (length source1.now) (length curve.now) (length cycle.now) (length words.now) (length steps.now) }
+    requires powered { Powered s h }
+    requires framed { Framed s lane host sub
+        (length rows.now.controls.source0.now) (length rows.now.controls.source1.now)
+        (length rows.now.words.now) (length rows.now.steps.now) }
     ensures { result ≡ frame_at s scale h
-        (lent_of s.lanes lane s.frames source0.now) (lent_of s.lanes lane s.frames source1.now)
-        curve.now cycle.now
-        (column 0 s.lanes lane (s.frames * s.factor) words.now) (column 0 s.lanes lane (s.frames * s.factor) steps.now)
+        (lent_of s.lanes lane s.frames rows.now.controls.source0.now) (lent_of s.lanes lane s.frames rows.now.controls.source1.now)
+        curve.entry.values.now cycle.entry.samples.now
+        (column 0 s.lanes lane (s.frames * s.factor) rows.now.words.now) (column 0 s.lanes lane (s.frames * s.factor) rows.now.steps.now)
         host sub v }
 {
-    let n = s.lanes as usize;
-    let frames = s.frames as usize;
     let factor = s.factor;
-    let slot0 = s.slot0;
-    let slot1 = s.slot1;
-    let heard0 = heard_at(
-        slot0.mode, source0, v.last, factor, frames, n, lane, host, sub,
-    );
-    let heard1 = heard_at(
-        slot1.mode, source1, v.last, factor, frames, n, lane, host, sub,
-    );
-    let drive0 = h.drive0;
-    let drive1 = h.drive1;
+    let at = LaneFrame {
+        lane: Lane {
+            lanes: s.lanes as usize,
+            index: lane,
+        },
+        frames: s.frames as usize,
+        host,
+    };
+    let HostFrame {
+        drive0,
+        drive1,
+        inner,
+    } = h;
     let control0 = Control {
         amount: drive0.amount,
-        sourced: source0.len() != 0,
-        source: heard0,
+        source: at.heard(s.slot0.mode, rows.controls.source0, v.last, factor, sub),
     };
     let control1 = Control {
         amount: drive1.amount,
-        sourced: source1.len() != 0,
-        source: heard1,
+        source: at.heard(s.slot1.mode, rows.controls.source1, v.last, factor, sub),
     };
-    let at = place(host * factor as usize + sub as usize, n, lane);
+    let rendered = at.lane.place(host * factor as usize + sub as usize);
     frame_of(
-        powers,
         s,
         scale,
         curve,
@@ -203,9 +179,9 @@ pub fn frame_at(
         control1,
         drive0.power,
         drive1.power,
-        h.inner,
-        words[at],
-        steps[at],
+        inner,
+        rows.words[rendered],
+        rows.steps[rendered],
         v,
     )
 }

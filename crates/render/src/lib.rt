@@ -6,8 +6,10 @@ pub mod drives;
 pub mod frame;
 pub mod frames;
 pub mod host;
+pub mod lent;
 pub mod plain;
 pub mod state;
 
 pub use frames::render_lane;
+pub use lent::{LentSlices, Rows};
 pub use state::{BlockSettings, Voice};

@@ -7,12 +7,13 @@ ghost use Rattle.grid.specs.Cells.{columns};
 ghost use Rattle.grid.specs.Lanes.{Each};
 ghost use Rattle.render.specs.Plain.{is_plain, cycle_read, Unshaped};
 
-use grid::place;
-use reads::read_cycle;
+use grid::Lane;
+use reads::Cycle;
 use voice::in_phase;
 use wave::in_wave;
 
 // Whether no slot is in a stage.
+#[tactic(auto, unfolding(crate::specs::Plain::is_plain))]
 pub fn is_plain(mode0: u32, mode1: u32) -> bool
     ensures { result ≡ is_plain mode0 mode1 }
 {
@@ -24,19 +25,18 @@ pub fn is_plain(mode0: u32, mode1: u32) -> bool
 pub fn read_lane(
     from: usize,
     count: usize,
-    n: usize,
-    lane: usize,
-    cycle: &[f32],
+    lane: Lane,
+    cycle: Cycle<'_>,
     words: &[u32],
     work: &mut [f32],
 )
-    requires { Unshaped from count n lane (length cycle.now) (length words.now) (length work.old) }
-    ensures { Each n lane (lane + 1) (λ l. span 0 count (cycle_read from n l cycle.now words.now))
-        (columns nan n work.old) (columns nan n work.new) }
+    requires { Unshaped from count lane.lanes (length words.now) (length work.old) }
+    ensures { Each lane.lanes lane.index (lane.index + 1) (λ l. span 0 count (cycle_read from lane.lanes l cycle.entry.samples.now words.now))
+        (columns nan lane.lanes work.old) (columns nan lane.lanes work.new) }
 {
+    // By places: a lane's cells are `lanes` apart in both, and two stepped iterators are no plainer.
     for k in 0..count {
-        let at = place(from + k, n, lane);
-        let to = place(k, n, lane);
-        work[to] = read_cycle(cycle, words[at]);
+        let word = words[lane.place(from + k)];
+        work[lane.place(k)] = cycle.read(word);
     }
 }

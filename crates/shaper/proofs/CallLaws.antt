@@ -1,22 +1,27 @@
 -- The laws of what the calls promise, and that the promises leave no cell open. Assumes nothing.
-use mathlib.Core.Path.{◌≡◌, refl, sym, ◌∙◌}
+use mathlib.Core.Path.{◌≡◌, refl, sym, ◌∙◌, ap}
 use mathlib.Core.List.{List}
 use Prim.Native.Nat.{ℕ, ◌+◌, ◌/◌, ◌%◌}
 use native.Mathlib.Decide.{ℕ_discrete}
 use lib.ListN.{length}
-use lib.Ieee.{Float, nan}
+use lib.Ieee.{Float, nan, of_bits}
+use native.Mathlib.Omega.{arith}
 use borrow.Author.Tests.{ne_eqb}
-use Rattle.floats.specs.F32.{0f}
+use Rattle.std.specs.Prelude.{Result, Ok, Err}
+use Rattle.std.specs.Result.{IsErrAnd}
 use Rattle.grid.proofs.CellLaws.{same_columns}
 use Rattle.grid.proofs.EachLaws.{each_unique}
 use Rattle.limits.specs.declared.answers.Valued.{Valued}
+use Rattle.limits.specs.declared.refusal.Refusal.{Refusal}
+use Rattle.limits.specs.Refusals.{line_of, number_of, valued_of}
+use Rattle.limits.proofs.LineLaws.{some_line}
 use Rattle.reads.specs.declared.lists.LaneReads.{LaneReads}
 use Rattle.controls.specs.Controls.{ControlBuffers, control_lengths}
 use Rattle.shaper.specs.declared.settings.Settings.{Settings}
 use Rattle.shaper.specs.declared.settings.Range.{Range}
 use Rattle.shaper.specs.declared.single.ReadsAnswer.{ReadsAnswer}
 use Rattle.shaper.specs.Refusal.{reads_refusal, sample_refusal}
-use Rattle.shaper.specs.ReadsCall.{no_reads, reads_from, ReadsCall}
+use Rattle.shaper.specs.ReadsCall.{reads_from, reads_answer, ReadsCall}
 use Rattle.shaper.specs.SampleCall.{sample_from, SampleCall}
 use Rattle.shaper.specs.Taken.{ReadsTaken, SampleTaken}
 use Rattle.shaper.proofs.RefusalLaws.{reads_accepted, sample_accepted}
@@ -27,13 +32,17 @@ module _ (s : Settings) (rate active lane : ℕ) (r : Range) (frame word step : 
   abbrev reads_number : ℕ
   reads_number = reads_refusal s rate active lane r frame (control_lengths l) (length curve) (length inner) (length fm) (length last)
 
-  pub reads_turned_down : (number : ℕ) (reads : LaneReads) → number ≡ reads_number → (number ≡ 0 → ⊥) → reads ≡ no_reads
-      → ReadsCall s rate active lane r frame word step l curve inner fm fm last (record { number = number; frames = 0; reads = reads })
-  reads_turned_down number reads e ne none =
+  pub reads_turned_down : (outcome : Result (ℕ × LaneReads) Refusal) (e : Refusal) → IsErrAnd outcome (λ x. x ≡ e)
+      → number_of {A = Unit {0}} (Err e) ≡ reads_number
+      → ReadsCall s rate active lane r frame word step l curve inner fm fm last (reads_answer outcome)
+  unfolding number_of reads_answer
+  reads_turned_down (Ok _) e h number = absurd h
+  reads_turned_down (Err x) e h number =
+      let ne : line_of x ≡ 0 → ⊥ = λ z. omega (arith, some_line x) in
       record {
-        number = e;
-        frames = rw (ne_eqb number 0 ne);
-        refused = λ h. (none, refl);
+        number = ap line_of h ∙ number;
+        frames = rw (ne_eqb (line_of x) 0 ne);
+        refused = λ _. (refl, refl);
         reads = λ z. absurd (ne z);
         carry = λ z. absurd (ne z);
         size = refl;
@@ -41,7 +50,8 @@ module _ (s : Settings) (rate active lane : ℕ) (r : Range) (frame word step : 
 
   pub reads_done : {fm' : List Float} {reads : LaneReads} → reads_number ≡ 0
       → ReadsTaken s lane (reads_from s rate lane (r.first + frame / s.factor) (frame % s.factor) word step l curve inner fm last) fm fm' reads → length fm' ≡ length fm
-      → ReadsCall s rate active lane r frame word step l curve inner fm fm' last (record { number = 0; frames = r.count; reads = reads })
+      → ReadsCall s rate active lane r frame word step l curve inner fm fm' last (reads_answer (Ok (r.count, reads)))
+  unfolding reads_answer
   reads_done e did size =
       record {
         number = sym e;
@@ -86,13 +96,17 @@ module _ (s : Settings) (active lane : ℕ) (r : Range) (frame step : ℕ) (x : 
   abbrev sample_number : ℕ
   sample_number = sample_refusal s active lane r frame (control_lengths l) (length pairs) (length last)
 
-  pub sample_turned_down : (number : ℕ) → number ≡ sample_number → (number ≡ 0 → ⊥)
-      → SampleCall s active lane r frame step x l pairs last pairs last (record { number = number; frames = 0; value = 0f })
-  sample_turned_down number e ne =
+  pub sample_turned_down : (outcome : Result (ℕ × Float) Refusal) (e : Refusal) → IsErrAnd outcome (λ x. x ≡ e)
+      → number_of {A = Unit {0}} (Err e) ≡ sample_number
+      → SampleCall s active lane r frame step x l pairs last pairs last (valued_of outcome)
+  unfolding number_of valued_of of_bits
+  sample_turned_down (Ok _) e h number = absurd h
+  sample_turned_down (Err y) e h number =
+      let ne : line_of y ≡ 0 → ⊥ = λ z. omega (arith, some_line y) in
       record {
-        number = e;
-        frames = rw (ne_eqb number 0 ne);
-        refused = λ h. (refl, refl, refl);
+        number = ap line_of h ∙ number;
+        frames = rw (ne_eqb (line_of y) 0 ne);
+        refused = λ _. (refl, refl, refl);
         value = λ z. absurd (ne z);
         filters = λ z. absurd (ne z);
         kept = λ z. absurd (ne z);
@@ -102,7 +116,8 @@ module _ (s : Settings) (active lane : ℕ) (r : Range) (frame step : ℕ) (x : 
   pub sample_done : {pairs' last' : List Float} {y : Float} → sample_number ≡ 0
       → SampleTaken s lane (sample_from s lane (r.first + frame / s.factor) (frame % s.factor) step x l pairs last) pairs last pairs' last' y
       → length pairs' ≡ length pairs → length last' ≡ length last
-      → SampleCall s active lane r frame step x l pairs last pairs' last' (record { number = 0; frames = r.count; value = y })
+      → SampleCall s active lane r frame step x l pairs last pairs' last' (valued_of (Ok (r.count, y)))
+  unfolding valued_of
   sample_done e did size-pairs size-last =
       record {
         number = sym e;

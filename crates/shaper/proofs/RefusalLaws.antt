@@ -1,39 +1,20 @@
 -- What an accepted call has. Assumes nothing.
-use mathlib.Core.Path.{◌≡◌}
+use mathlib.Core.Path.{◌≡◌, sym}
 use mathlib.Core.Bool.{false, ◌||◌}
 use Prim.Native.Nat.{ℕ, ◌+◌, ◌*◌, ◌/◌, ◌≤◌, ◌<◌}
 use native.Mathlib.Nat.{div-lt_iff_lt-mul}
 use native.Mathlib.Omega.{arith}
 use Rattle.limits.specs.declared.lengths.ControlLengths.{ControlLengths}
-use Rattle.limits.specs.Lines.{first_of, number_lines, bad_factor, bad_lane, bad_rate}
+use Rattle.std.specs.Prelude.{Ok}
+use Rattle.limits.specs.Refusals.{number_of}
+use Rattle.limits.specs.Lines.{first_of, bad_factor, bad_lane, bad_rate}
 use Rattle.limits.specs.Lengths.{span_length, curve_length, pairs_length, carry_length, last_length, shorter, short_controls, ControlsHeld}
-use Rattle.limits.proofs.LineLaws.{then_lengths, whole_table, no_line, or_false, small_factor, good_lane, good_frame, good_rate}
+use Rattle.limits.proofs.LineLaws.{no_line, or_false, small_factor, good_lane, good_frame, good_rate}
 use Rattle.limits.proofs.LengthLaws.{long_enough, controls_held}
 use Rattle.shaper.specs.declared.settings.Settings.{Settings}
 use Rattle.shaper.specs.declared.settings.Range.{Range}
 use Rattle.shaper.specs.Refusal.{mode_line, frame_line, reads_short, carry_short, pairs_short, reads_refusal, sample_refusal}
-use Rattle.shaper.specs.Taken.{Held, Driven, Fed}
-
--- ---- the tables, as the code goes through them
-
-module _ (s : Settings) (active lane : ℕ) (r : Range) (frame : ℕ) (l : ControlLengths) where
-  pub reads_table : (rate curve inner fm last : ℕ)
-      → reads_refusal s rate active lane r frame l curve inner fm last
-      ≡ then_lengths (first_of (number_lines (mode_line s) (bad_factor s.factor) (bad_lane s.lanes active lane) (frame_line s r frame) (bad_rate rate) false))
-      (reads_short s l curve inner) (carry_short s.lanes fm last)
-  unfolding reads_refusal first_of
-  reads_table rate curve inner fm last =
-      whole_table (mode_line s) (bad_factor s.factor) (bad_lane s.lanes active lane) (frame_line s r frame) (bad_rate rate) false
-      (reads_short s l curve inner) (carry_short s.lanes fm last)
-
-  pub sample_table : (pairs last : ℕ)
-      → sample_refusal s active lane r frame l pairs last
-      ≡ then_lengths (first_of (number_lines (mode_line s) (bad_factor s.factor) (bad_lane s.lanes active lane) (frame_line s r frame) false false))
-      (short_controls s.frames s.lanes l) (pairs_short s.lanes pairs last)
-  unfolding sample_refusal first_of
-  sample_table pairs last =
-      whole_table (mode_line s) (bad_factor s.factor) (bad_lane s.lanes active lane) (frame_line s r frame) false false
-      (short_controls s.frames s.lanes l) (pairs_short s.lanes pairs last)
+use Rattle.shaper.specs.Taken.{Driven, Fed}
 
 -- ---- lines 1 to 4 and 7, which both calls have
 
@@ -91,16 +72,10 @@ module _ {s : Settings} {active lane : ℕ} {r : Range} {frame : ℕ} {l : Contr
         controls = a.controls;
       }
 
-  -- rows of the lane in a buffer of so many numbers
-  pub held_of : (rows have : ℕ) → rows * s.lanes ≤ have → Held rows s.lanes lane have
-  held_of rows have h =
-      let actives = a.actives in
-      let inside = a.inside in
-      record { inside = omega arith; few = a.few; held = h }
-
 -- ---- an accepted read list
 
 pub record ReadsAccepted (s : Settings) (rate active lane : ℕ) (r : Range) (frame : ℕ) (l : ControlLengths) (curve inner fm last : ℕ) : Type 0 where
+  pub number : reads_refusal s rate active lane r frame l curve inner fm last ≡ 0
   pub accepted : Accepted s active lane r frame l
   pub high : rate ≤ 192000
   pub entries : curve_length ≤ curve
@@ -119,6 +94,7 @@ reads_accepted s rate active lane r frame l curve inner fm last e =
     let controls = or_false (short_controls s.frames s.lanes l) (shorter curve_length curve) read.0 in
     let written = or_false (shorter (carry_length s.lanes) fm) (shorter (last_length s.lanes) last) p.written in
     record {
+      number = e;
       accepted = accepted s active lane r frame l p.numbers.factor p.numbers.lanes p.numbers.frames controls.0;
       high = (good_rate rate p.numbers.rate).1;
       entries = long_enough curve_length curve controls.1;
@@ -127,20 +103,27 @@ reads_accepted s rate active lane r frame l curve inner fm last e =
       kept = long_enough (last_length s.lanes) last written.1;
     }
 
+-- as the code comes to it
+pub reads_passed : {s : Settings} {rate active lane : ℕ} {r : Range} {frame : ℕ} {l l' : ControlLengths} {curve inner fm last : ℕ} → l ≡ l'
+    → number_of {A = Unit {0}} (Ok tt) ≡ reads_refusal s rate active lane r frame l curve inner fm last
+    → ReadsAccepted s rate active lane r frame l' curve inner fm last
+unfolding number_of
+reads_passed e passed = reads_accepted _ _ _ _ _ _ _ _ _ _ _ (sym (rw e at passed))
+
 pub fed_of : {s : Settings} {rate active lane : ℕ} {r : Range} {frame : ℕ} {l : ControlLengths} {curve inner fm last : ℕ}
-    → ReadsAccepted s rate active lane r frame l curve inner fm last → Fed s rate l lane (r.first + frame / s.factor) curve inner
+    → ReadsAccepted s rate active lane r frame l curve inner fm last → Fed s rate l lane (r.first + frame / s.factor) inner
 fed_of a =
     record {
       driven = driven_of_lem a.accepted;
       rates = a.high;
       factor = a.accepted.most;
-      entries = a.entries;
       spans = a.spans;
     }
 
 -- ---- an accepted sample
 
 pub record SampleAccepted (s : Settings) (active lane : ℕ) (r : Range) (frame : ℕ) (l : ControlLengths) (pairs last : ℕ) : Type 0 where
+  pub number : sample_refusal s active lane r frame l pairs last ≡ 0
   pub accepted : Accepted s active lane r frame l
   pub cells : pairs_length s.lanes ≤ pairs
   pub kept : last_length s.lanes ≤ last
@@ -154,7 +137,14 @@ sample_accepted s active lane r frame l pairs last e =
     (short_controls s.frames s.lanes l) (pairs_short s.lanes pairs last) e in
     let written = or_false (shorter (pairs_length s.lanes) pairs) (shorter (last_length s.lanes) last) p.written in
     record {
+      number = e;
       accepted = accepted s active lane r frame l p.numbers.factor p.numbers.lanes p.numbers.frames p.read;
       cells = long_enough (pairs_length s.lanes) pairs written.0;
       kept = long_enough (last_length s.lanes) last written.1;
     }
+
+pub sample_passed : {s : Settings} {active lane : ℕ} {r : Range} {frame : ℕ} {l l' : ControlLengths} {pairs last : ℕ} → l ≡ l'
+    → number_of {A = Unit {0}} (Ok tt) ≡ sample_refusal s active lane r frame l pairs last
+    → SampleAccepted s active lane r frame l' pairs last
+unfolding number_of
+sample_passed e passed = sample_accepted _ _ _ _ _ _ _ _ (sym (rw e at passed))

@@ -4,8 +4,6 @@ use mathlib.Core.List.{List}
 use Prim.Native.Nat.{ℕ, ◌+◌, ◌*◌, ◌/◌, ◌≤◌, ◌<◌}
 use native.Mathlib.Nat.{mul-le-mul}
 use native.Mathlib.Omega.{arith}
-use lib.ListN.{length, take}
-use lib.Seq.{length-take-le}
 use lib.Ieee.{Float, nan}
 use Rattle.grid.specs.Functions.{upd}
 use Rattle.grid.specs.Cells.{columns}
@@ -21,23 +19,19 @@ use Rattle.shaper.specs.Lane.{put_pairs, put_carry}
 use Rattle.shaper.specs.Taken.{Fed, ReadsTaken, SampleTaken}
 
 -- the lane's number in the span of its host frame's sub-block
-pub span_held : {s : Settings} {rate : ℕ} {l : ControlLengths} {lane host curve inner : ℕ} → Fed s rate l lane host curve inner
+pub span_held : {s : Settings} {rate : ℕ} {l : ControlLengths} {lane host inner : ℕ} → Fed s rate l lane host inner
     → host / 32 * s.lanes + lane < inner
 span_held {s} {lane = lane} {host = host} fed =
     let spot = fed.driven.spot in
     omega (arith, row_in (host / 32) (spans_of s.frames) lane s.lanes (span_in s.frames host spot.row) spot.inside, fed.spans)
 
 -- its place is a small number, in a short block of few lanes
-pub span_small : {s : Settings} {rate : ℕ} {l : ControlLengths} {lane host curve inner : ℕ} → Fed s rate l lane host curve inner
+pub span_small : {s : Settings} {rate : ℕ} {l : ControlLengths} {lane host inner : ℕ} → Fed s rate l lane host inner
     → host / 32 * s.lanes + lane < 8192
 span_small {s} {lane = lane} {host = host} fed =
     let spot = fed.driven.spot in
     let sub_block_lem : host / 32 ≤ 127 = omega (arith, spot.row, spot.block) in
     omega (arith, mul-le-mul sub_block_lem spot.few, spot.inside, spot.few)
-
--- the part of the curve that is read
-pub table_held : (curve : List Float) → 1025 ≤ length curve → 1024 < length (take 1025 curve)
-table_held curve h = rw (length-take-le 1025 curve h) (omega arith)
 
 -- what the parts of the work promise, by what it is called for
 pub reads_taken : {s : Settings} {lane : ℕ} {fm fm' : List Float} (done called : Reads) → done ≡ called

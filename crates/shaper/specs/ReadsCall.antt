@@ -1,10 +1,12 @@
 -- What the call for one lane's read list promises. Definitions only.
-use Rattle.std.specs.Prelude.{◌≡◌, cond, List, ℕ, ◌+◌, ◌/◌, ◌%◌, eqb, length, take, replicate, Float}
+use Rattle.std.specs.Prelude.{◌≡◌, cond, Result, Ok, Err, List, ℕ, ◌+◌, ◌/◌, ◌%◌, eqb, length, take, replicate, Float}
 use Rattle.std.specs.Float.{nan}
 use Rattle.floats.specs.F32.{0f}
 use Rattle.grid.specs.Cells.{col, column, columns}
 use Rattle.grid.specs.Lanes.{Each}
 use Rattle.limits.specs.Lengths.{spans_of, curve_length}
+use Rattle.limits.specs.declared.refusal.Refusal.{Refusal}
+use Rattle.limits.specs.Refusals.{line_of}
 use Rattle.reads.specs.declared.lists.LaneReads.{LaneReads}
 use Rattle.voice.specs.declared.phase_run.Reads.{Reads}
 use Rattle.controls.specs.Controls.{ControlBuffers, control_lengths}
@@ -17,6 +19,11 @@ use Rattle.shaper.specs.Refusal.{reads_refusal}
 -- a refused list: count 0 and only zeros
 abbrev pub no_reads : LaneReads
 no_reads = record { phase = replicate 4 0; gain = replicate 4 0f; count = 0 }
+
+-- for C: the number, and what an accepted call gives
+unfoldable pub reads_answer : Result (ℕ × LaneReads) Refusal → ReadsAnswer
+reads_answer (Ok (frames, reads)) = record { number = 0; frames = frames; reads = reads }
+reads_answer (Err refusal) = record { number = line_of refusal; frames = 0; reads = no_reads }
 
 -- at rendered frame `sub` of the block's host frame `host`
 abbrev pub reads_from : Settings → ℕ → ℕ → ℕ → ℕ → ℕ → ℕ → ControlBuffers → List Float → List Float → List Float → List Float → Reads

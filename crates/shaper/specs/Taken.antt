@@ -1,12 +1,12 @@
 -- The work of a call that is taken: what it asks for, and what it promises of its buffers. `host` is the host frame of the block, `sub`
 -- counts the rendered frames of a host frame. Definitions only.
-use Rattle.std.specs.Prelude.{◌≡◌, List, ℕ, ◌+◌, ◌*◌, ◌≤◌, ◌<◌, Float}
+use Rattle.std.specs.Prelude.{◌≡◌, List, ℕ, ◌+◌, ◌≤◌, Float}
 use Rattle.std.specs.Float.{nan}
 use Rattle.grid.specs.Functions.{upd}
 use Rattle.grid.specs.Cells.{columns}
 use Rattle.grid.specs.Lanes.{Each}
 use Rattle.limits.specs.declared.lengths.ControlLengths.{ControlLengths}
-use Rattle.limits.specs.Lengths.{curve_length, span_length, ControlsHeld}
+use Rattle.limits.specs.Lengths.{span_length, ControlsHeld}
 use Rattle.reads.specs.declared.lists.LaneReads.{LaneReads}
 use Rattle.voice.specs.declared.phase_run.Reads.{Reads}
 use Rattle.voice.specs.declared.wave_run.Shaped.{Shaped}
@@ -16,23 +16,16 @@ use Rattle.shaper.specs.Lane.{put_pairs, put_carry}
 
 -- ---- what is asked for
 
--- the first rows of a lane of n
-pub record Held (rows n lane have : ℕ) : Type 0 where
-  pub inside : lane < n
-  pub few : n ≤ 64
-  pub held : rows * n ≤ have
-
 -- base, modulation and sources at a host frame
 pub record Driven (s : Settings) (l : ControlLengths) (lane host : ℕ) : Type 0 where
   pub spot : Spot s.frames s.lanes lane host
   pub controls : ControlsHeld s.frames s.lanes l
 
 -- and what a read list takes besides
-pub record Fed (s : Settings) (rate : ℕ) (l : ControlLengths) (lane host curve inner : ℕ) : Type 0 where
+pub record Fed (s : Settings) (rate : ℕ) (l : ControlLengths) (lane host inner : ℕ) : Type 0 where
   pub driven : Driven s l lane host
   pub rates : rate ≤ 192000
   pub factor : s.factor ≤ 8
-  pub entries : curve_length ≤ curve
   pub spans : span_length s.frames s.lanes ≤ inner
 
 -- ---- what is promised

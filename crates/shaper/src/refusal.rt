@@ -1,31 +1,16 @@
 // When the calls about a single rendered frame are turned down.
-ghost use Rattle.std.specs.Prelude.{◌≡◌, false, ◌≤◌};
-ghost use Rattle.limits.specs.Lines.{first_of, number_lines, bad_factor, bad_lane};
-ghost use Rattle.shaper.specs.Refusal.{mode_line, frame_line, reads_short, carry_short, pairs_short, reads_refusal, sample_refusal};
+ghost use Rattle.std.specs.Prelude.{◌≡◌};
+ghost use Rattle.limits.specs.Refusals.{number_of};
+ghost use Rattle.shaper.specs.Refusal.{reads_short, carry_short, pairs_short, reads_refusal, sample_refusal};
 
 use crate::settings::{Range, Settings};
 use limits::{
-    CURVE_LENGTH, ControlLengths, carry_length, controls_short, factor_bad, first_line, frame_bad,
-    lane_bad, last_length, modes_bad, pairs_length, rate_bad, short, span_length,
+    CURVE_LENGTH, ControlLengths, Refusal, carry_length, check_lines, controls_short, factor_bad,
+    frame_bad, lane_bad, last_length, modes_bad, pairs_length, rate_bad, short, span_length,
 };
-
-// Lines 1 to 4, which both calls have, and 5 by its test.
-fn numbers_refused(s: Settings, active: u32, lane: u32, r: Range, frame: u32, rate: bool) -> u32
-    ensures { result ≡ first_of (number_lines (mode_line s) (bad_factor s.factor) (bad_lane s.lanes active lane) (frame_line s r frame) rate false) }
-{
-    first_line(
-        modes_bad(s.slot0.mode, s.slot1.mode),
-        factor_bad(s.factor),
-        lane_bad(s.lanes, active, lane),
-        frame_bad(s.factor, s.frames, r.first, r.count, frame),
-        rate,
-        false,
-    )
-}
 
 // Line 7 of a read list.
 fn reads_short(s: Settings, l: ControlLengths, curve: usize, inner: usize) -> bool
-    requires { (s.frames ≤ 4096) × (s.lanes ≤ 64) }
     ensures { result ≡ reads_short s l curve inner }
 {
     controls_short(s.frames, s.lanes, l)
@@ -35,7 +20,6 @@ fn reads_short(s: Settings, l: ControlLengths, curve: usize, inner: usize) -> bo
 
 // Line 8 of a read list.
 fn carry_short(lanes: u32, fm: usize, last: usize) -> bool
-    requires { lanes ≤ 64 }
     ensures { result ≡ carry_short lanes fm last }
 {
     short(carry_length(lanes), fm) | short(last_length(lanes), last)
@@ -43,15 +27,14 @@ fn carry_short(lanes: u32, fm: usize, last: usize) -> bool
 
 // Line 8 of a sample.
 fn pairs_short(lanes: u32, pairs: usize, last: usize) -> bool
-    requires { lanes ≤ 64 }
     ensures { result ≡ pairs_short lanes pairs last }
 {
     short(pairs_length(lanes), pairs) | short(last_length(lanes), last)
 }
 
-// The number of a read list: the first line that holds, and 0 where it is accepted. The last four
-// arguments are lengths.
-pub fn reads_refused(
+// A read list. The last four arguments are lengths.
+#[tactic(auto, unfolding(crate::specs::Refusal::reads_refusal, limits::specs::Lines::first_of, limits::specs::Refusals::line_of))]
+pub fn check_reads(
     s: Settings,
     rate: u32,
     active: u32,
@@ -63,24 +46,26 @@ pub fn reads_refused(
     inner: usize,
     fm: usize,
     last: usize,
-) -> u32
-    ensures { result ≡ reads_refusal s rate active lane r frame l curve inner fm last }
+) -> Result<(), Refusal>
+    ensures { number_of result ≡ reads_refusal s rate active lane r frame l curve inner fm last }
 {
-    let number = numbers_refused(s, active, lane, r, frame, rate_bad(rate));
-    if number != 0 {
-        return number;
-    }
-    if reads_short(s, l, curve, inner) {
-        return 7;
-    }
-    if carry_short(s.lanes, fm, last) {
-        return 8;
-    }
-    0
+    check_lines(&[
+        (modes_bad(s.slot0.mode, s.slot1.mode), Refusal::Mode),
+        (factor_bad(s.factor), Refusal::Factor),
+        (lane_bad(s.lanes, active, lane), Refusal::Lanes),
+        (
+            frame_bad(s.factor, s.frames, r.first, r.count, frame),
+            Refusal::Frames,
+        ),
+        (rate_bad(rate), Refusal::Rate),
+        (reads_short(s, l, curve, inner), Refusal::ShortRead),
+        (carry_short(s.lanes, fm, last), Refusal::ShortWrite),
+    ])
 }
 
-// The number of a sample.
-pub fn sample_refused(
+// A sample.
+#[tactic(auto, unfolding(crate::specs::Refusal::sample_refusal, limits::specs::Lines::first_of, limits::specs::Refusals::line_of))]
+pub fn check_sample(
     s: Settings,
     active: u32,
     lane: u32,
@@ -89,18 +74,18 @@ pub fn sample_refused(
     l: ControlLengths,
     pairs: usize,
     last: usize,
-) -> u32
-    ensures { result ≡ sample_refusal s active lane r frame l pairs last }
+) -> Result<(), Refusal>
+    ensures { number_of result ≡ sample_refusal s active lane r frame l pairs last }
 {
-    let number = numbers_refused(s, active, lane, r, frame, false);
-    if number != 0 {
-        return number;
-    }
-    if controls_short(s.frames, s.lanes, l) {
-        return 7;
-    }
-    if pairs_short(s.lanes, pairs, last) {
-        return 8;
-    }
-    0
+    check_lines(&[
+        (modes_bad(s.slot0.mode, s.slot1.mode), Refusal::Mode),
+        (factor_bad(s.factor), Refusal::Factor),
+        (lane_bad(s.lanes, active, lane), Refusal::Lanes),
+        (
+            frame_bad(s.factor, s.frames, r.first, r.count, frame),
+            Refusal::Frames,
+        ),
+        (controls_short(s.frames, s.lanes, l), Refusal::ShortRead),
+        (pairs_short(s.lanes, pairs, last), Refusal::ShortWrite),
+    ])
 }

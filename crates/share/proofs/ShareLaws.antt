@@ -5,7 +5,7 @@ use Prim.Native.Nat.{ℕ, ◌+◌, ◌*◌, ◌≤◌, ◌<◌}
 use native.Mathlib.Nat.{mul-le-mul, mul-le-mul_left, mul-le-mul_right, zero-add}
 use native.Mathlib.Omega.{arith}
 use lib.ListN.{length, get_or, set, take}
-use lib.Seq.{take-take, length-take-le}
+use lib.Seq.{length-take-le}
 use lib.Ieee.{Float, nan}
 use Rattle.grid.specs.Functions.{upto, span}
 use Rattle.grid.specs.Cells.{col, columns, blk}
@@ -20,14 +20,13 @@ use Rattle.halfband.specs.Promises.{Taken}
 use Rattle.halfband.specs.Decimated.{lane_part}
 use Rattle.shaper.specs.declared.settings.Settings.{Settings}
 use Rattle.shaper.specs.declared.settings.Range.{Range}
-use Rattle.shaper.specs.Taken.{Held}
 use Rattle.render.specs.declared.state.BlockSettings.{BlockSettings}
 use Rattle.render.specs.declared.state.Voice.{Voice}
-use Rattle.render.specs.Lane.{Lent, inputs_of, voice_of, voice_after, sample_at, first_frame, frame_count}
+use Rattle.render.specs.Lane.{Lent, inputs_of, inputs_in, voice_of, voice_after, sample_at, first_frame, frame_count}
 use Rattle.render.specs.Promises.{Limits, Readable}
-use Rattle.render.specs.Frames.{Cut, Frames}
+use Rattle.render.specs.Frames.{Frames}
 use Rattle.share.specs.Share.{Buffers, buffers, columns_of, rendered, decimated, copied, share}
-use Rattle.share.specs.Promises.{Writable, Copied, Stored, Sizes, Shared}
+use Rattle.share.specs.Promises.{Writable, StateHeld, Copied, Stored, Sizes, Shared}
 
 -- ---- the copy
 
@@ -47,22 +46,12 @@ module _ (first n lane : ℕ) (work : List Float) where
       (λ m hm ne. col_set_other nan n m output' lane (first + k) x hm hl ne ∙ one_others was m hm ne)
 
 -- where the rows lie
-module _ {first count n lane work output : ℕ} (rows : Copied first count n lane work output) (k : ℕ) (less : k < count) where
+module _ {first count n work output : ℕ} (rows : Copied first count n work output) (lane : ℕ) (inside : lane < n) (k : ℕ) (less : k < count) where
   pub from_in : k * n + lane < work
-  from_in = omega (arith, row_in k count lane n less rows.inside, rows.from)
-
-  pub from_near : k * n + lane < 262144
-  from_near =
-      let last : k ≤ 4095 = omega (arith, rows.rows) in
-      omega (arith, mul-le-mul last rows.few, rows.inside, rows.few)
+  from_in = omega (arith, row_in k count lane n less inside, rows.from)
 
   pub to_in : (first + k) * n + lane < output
-  to_in = omega (arith, row_in (first + k) (first + count) lane n (omega arith) rows.inside, rows.to)
-
-  pub to_near : (first + k) * n + lane < 262144
-  to_near =
-      let last : first + k ≤ 4095 = omega (arith, rows.rows) in
-      omega (arith, mul-le-mul last rows.few, rows.inside, rows.few)
+  to_in = omega (arith, row_in (first + k) (first + count) lane n (omega arith) inside, rows.to)
 
 -- ---- tables that are cut
 
@@ -77,22 +66,17 @@ cut_lent l =
       inner = l.inner;
     }
 
--- the lane's inputs are cut so already
-pub inputs_cut : (s : Settings) (l : Lent) (lane : ℕ) → inputs_of s (cut_lent l) lane ≡ inputs_of s l lane
-unfolding inputs_of
-inputs_cut s l lane = rw (take-take 1025 1025 l.curve (omega arith), take-take 2048 2048 l.cycle (omega arith))
-
-pub cut_tables : {s : Settings} (l : Lent) → Readable s l → Cut (length (take 1025 l.curve)) (length (take 2048 l.cycle))
-cut_tables l readable =
-    record { entries = length-take-le 1025 l.curve readable.curve; samples = length-take-le 2048 l.cycle readable.cycle }
+-- and a lane's inputs as they are read are the definition's
+pub inputs_cut : (s : Settings) (l : Lent) (lane : ℕ) → inputs_in s (cut_lent l) lane ≡ inputs_of s l lane
+unfolding inputs_in inputs_of
+inputs_cut s l lane = refl
 
 pub cut_readable : {s : Settings} (l : Lent) → Readable s l → Readable s (cut_lent l)
 cut_readable l readable =
-    let cut = cut_tables l readable in
     record {
       controls = readable.controls;
-      curve = omega (arith, cut.entries);
-      cycle = omega (arith, cut.samples);
+      curve = rw (length-take-le 1025 l.curve readable.curve) (omega arith);
+      cycle = rw (length-take-le 2048 l.cycle readable.cycle) (omega arith);
       words = readable.words;
       steps = readable.steps;
       inner = readable.inner;
@@ -101,15 +85,8 @@ cut_readable l readable =
 -- ---- what the parts ask for
 
 module _ {b : BlockSettings} {r : Range} {w : Buffers} (limits : Limits b r) (writable : Writable b.shaper r w) where
-  pub voice_held : (lane : ℕ) → lane < b.shaper.lanes
-      → Held 4 b.shaper.lanes lane (length w.pairs) × (Held 2 b.shaper.lanes lane (length w.fm) × Held 1 b.shaper.lanes lane (length w.last))
-  voice_held lane hl = (
-    record { inside = hl; few = limits.lanes; held = writable.pairs },
-    (
-      record { inside = hl; few = limits.lanes; held = writable.fm },
-      record { inside = hl; few = limits.lanes; held = omega (arith, writable.last) },
-    ),
-  )
+  pub state_held : StateHeld b.shaper.lanes (length w.pairs) (length w.fm) (length w.last)
+  state_held = record { pairs = writable.pairs; fm = writable.fm; last = writable.last }
 
   pub stages_taken : (stages size : ℕ) → stages ≡ stages_of b.shaper.factor → size ≡ length w.work
       → Taken b.designs stages r.count b.shaper.lanes size (length w.dec)
@@ -124,14 +101,11 @@ module _ {b : BlockSettings} {r : Range} {w : Buffers} (limits : Limits b r) (wr
         cells = writable.dec;
       })
 
-  pub rows_copied : (lane size : ℕ) → lane < b.shaper.lanes → size ≡ length w.work
-      → Copied r.first r.count b.shaper.lanes lane size (length w.output)
-  rows_copied lane size hl same =
+  pub rows_copied : (size : ℕ) → size ≡ length w.work → Copied r.first r.count b.shaper.lanes size (length w.output)
+  rows_copied size same =
       let n = b.shaper.lanes in
       let once : r.count ≤ r.count * b.shaper.factor = omega (arith, mul-le-mul_left r.count limits.factor_least) in
       record {
-        inside = hl;
-        few = limits.lanes;
         rows = omega (arith, limits.range, limits.frames);
         from = omega (arith, mul-le-mul_right n once, writable.work);
         to = omega (arith, mul-le-mul_right n limits.range, writable.output);
@@ -152,7 +126,7 @@ module _ (b : BlockSettings) (r : Range) (l : Lent) (lane : ℕ) where
   pub shared :
       (output work pairs fm last dec work₁ output' work' pairs' fm' last' dec' : List Float) (stages : ℕ) (v end : Voice) → lane < n
       → v ≡ voice_of (col nan n lane pairs) (col nan n lane fm) (col nan n lane last)
-      → Frames b (inputs_of b.shaper (cut_lent l) lane) lane (first_frame b r) 0 (frame_count b r) v end work work₁
+      → Frames b (inputs_in b.shaper (cut_lent l) lane) lane (first_frame b r) 0 (frame_count b r) v end work work₁
       → Stored n lane end pairs fm last pairs' fm' last'
       → stages ≡ stages_of b.shaper.factor
       → Each n lane (lane + 1) (λ _. lane_part b.designs stages r.count) (views floats n work₁ dec) (views floats n work' dec')

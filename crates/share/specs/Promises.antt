@@ -1,5 +1,5 @@
 -- What a lane's share asks for, and what it promises. Definitions only.
-use Rattle.std.specs.Prelude.{◌≡◌, List, ℕ, ◌+◌, ◌*◌, ◌<◌, ◌≤◌, length, Float}
+use Rattle.std.specs.Prelude.{◌≡◌, List, ℕ, ◌+◌, ◌*◌, ◌≤◌, length, Float}
 use Rattle.std.specs.Float.{nan}
 use Rattle.grid.specs.Functions.{upd}
 use Rattle.grid.specs.Cells.{columns}
@@ -22,10 +22,14 @@ pub record Writable (s : Settings) (r : Range) (w : Buffers) : Type 0 where
   pub last : last_length s.lanes ≤ length w.last
   pub dec : state_length s.lanes ≤ length w.dec
 
+-- cells of a lane's state that are there
+pub record StateHeld (n pairs_have fm_have last_have : ℕ) : Type 0 where
+  pub pairs : pairs_length n ≤ pairs_have
+  pub fm : carry_length n ≤ fm_have
+  pub last : last_length n ≤ last_have
+
 -- the rows that are copied
-pub record Copied (first count n lane work output : ℕ) : Type 0 where
-  pub inside : lane < n
-  pub few : n ≤ 64
+pub record Copied (first count n work output : ℕ) : Type 0 where
   pub rows : first + count ≤ 4096
   pub from : count * n ≤ work
   pub to : (first + count) * n ≤ output

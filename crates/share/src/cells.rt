@@ -1,50 +1,36 @@
 // A lane's filter pairs, FM carry and `last` in its cells.
-ghost use Rattle.std.specs.Prelude.{◌≡◌, length};
+ghost use Rattle.std.specs.Prelude.{◌≡◌, ◌≤◌, length};
 ghost use Rattle.std.specs.Float.{nan};
 ghost use Rattle.grid.specs.Cells.{col};
-ghost use Rattle.shaper.specs.Taken.{Held};
 ghost use Rattle.render.specs.Lane.{voice_of};
-ghost use Rattle.share.specs.Promises.{Stored};
+ghost use Rattle.share.specs.Promises.{StateHeld, Stored};
 
-use grid::place;
+use grid::Lane;
 use render::Voice;
 use shaper::{load_pair, store_carry, store_last, store_pairs};
 
 // A lane's state from its cells.
-pub fn load_voice(n: usize, lane: usize, pairs: &[f32], fm: &[f32], last: &[f32]) -> Voice
-    requires fact_1 { Held 4 n lane (length pairs.now) }
-    requires fact_2 { Held 2 n lane (length fm.now) }
-    requires fact_3 { Held 1 n lane (length last.now) }
-    ensures { result ≡ voice_of (col nan n lane pairs.now) (col nan n lane fm.now) (col nan n lane last.now) }
+pub fn load_voice(lane: Lane, pairs: &[f32], fm: &[f32], last: &[f32]) -> Voice
+    requires { StateHeld lane.lanes (length pairs.now) (length fm.now) (length last.now) }
+    ensures { result ≡ voice_of (col nan lane.lanes lane.index pairs.now)
+        (col nan lane.lanes lane.index fm.now) (col nan lane.lanes lane.index last.now) }
 {
-    let pairs0 = load_pair(pairs, 0, n, lane);
-    let pairs1 = load_pair(pairs, 2, n, lane);
-    let at0 = place(0, n, lane);
-    let at1 = place(1, n, lane);
+    let first = lane.place(0);
     Voice {
-        pairs0: pairs0,
-        pairs1: pairs1,
-        fm0: fm[at0],
-        fm1: fm[at1],
-        last: last[at0],
+        pairs0: load_pair(pairs, 0, lane),
+        pairs1: load_pair(pairs, 2, lane),
+        fm0: fm[first],
+        fm1: fm[lane.place(1)],
+        last: last[first],
     }
 }
 
 // And back into them.
-pub fn store_voice(
-    n: usize,
-    lane: usize,
-    v: Voice,
-    pairs: &mut [f32],
-    fm: &mut [f32],
-    last: &mut [f32],
-)
-    requires { (Held 4 n lane (length pairs.old)) × ((Held 2 n lane (length fm.old)) × (Held 1 n lane (length last.old))) }
-    ensures { Stored n lane v pairs.old fm.old last.old pairs.new fm.new last.new }
+pub fn store_voice(lane: Lane, v: Voice, pairs: &mut [f32], fm: &mut [f32], last: &mut [f32])
+    requires { StateHeld lane.lanes (length pairs.old) (length fm.old) (length last.old) }
+    ensures { Stored lane.lanes lane.index v pairs.old fm.old last.old pairs.new fm.new last.new }
 {
-    let pairs0 = v.pairs0;
-    let pairs1 = v.pairs1;
-    store_pairs(pairs, n, lane, pairs0, pairs1);
-    store_carry(fm, n, lane, v.fm0, v.fm1);
-    store_last(last, n, lane, v.last);
+    store_pairs(pairs, lane, v.pairs0, v.pairs1);
+    store_carry(fm, lane, v.fm0, v.fm1);
+    store_last(last, lane, v.last);
 }

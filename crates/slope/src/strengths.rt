@@ -11,6 +11,7 @@ pub const LEAN_MAX: f32 = 1.8;
 pub const PULSE_MAX: f32 = 0.95;
 
 // The pinch map's strength, -`PINCH_MAX` (out) to +`PINCH_MAX` (in).
+#[tactic(auto, unfolding(crate::specs::Strengths::pinch_strength, modes::specs::Choice::case_of))]
 pub fn pinch_strength(mode: u32, a: f32) -> f32
     ensures { result ≡ pinch_strength mode a }
 {
@@ -21,7 +22,9 @@ pub fn pinch_strength(mode: u32, a: f32) -> f32
     }
 }
 
-// The lean map's strength: negative leans right (the cycle's content later), positive left.
+// The lean map's strength: negative leans right (the cycle's content later), positive left. It is not the
+// pinch map's of the other sign, since half way 1 - 2a is +0 where -(2a - 1) is -0.
+#[tactic(auto, unfolding(crate::specs::Strengths::lean_strength, modes::specs::Choice::case_of))]
 pub fn lean_strength(mode: u32, a: f32) -> f32
     ensures { result ≡ lean_strength mode a }
 {

@@ -1,8 +1,7 @@
 -- The laws of a lane's sub-blocks, one row after another in its three spans. Assumes nothing.
 use mathlib.Core.Path.{◌≡◌, refl, sym, ◌∙◌, ap}
 use mathlib.Core.List.{List}
-use Prim.Native.Nat.{ℕ, ◌+◌, ◌*◌, ◌≤◌, ◌<◌}
-use native.Mathlib.Nat.{mul-le-mul}
+use Prim.Native.Nat.{ℕ, ◌+◌, ◌*◌, ◌<◌}
 use native.Mathlib.Omega.{arith}
 use lib.ListN.{length, set}
 use lib.Ieee.{Float, nan}
@@ -17,36 +16,16 @@ use Rattle.limits.specs.declared.lengths.ControlLengths.{ControlLengths}
 use Rattle.controls.specs.Controls.{Controls}
 use Rattle.spans.specs.declared.slopes.Span.{Span}
 use Rattle.spans.specs.Slopes.{span_at}
-use Rattle.spans.specs.Promises.{Prepares, Takes}
+use Rattle.spans.specs.Promises.{Takes}
 use Rattle.spans.specs.Prepared.{Spans, spans, View, views, filled}
 
--- ---- what a sub-block asks for
+-- ---- where a sub-block is stored
 
-module _ {factor rate frames rows n : ℕ} {controls : ControlLengths} {inner stretch add : ℕ}
-    (taken : Takes factor rate frames rows n controls inner stretch add) (lane s : ℕ) (hl : lane < n) (hs : s < rows) where
-  pub sub_block_lem : Prepares factor rate frames n lane s controls
-  sub_block_lem =
-      record {
-        inside = hl;
-        few = taken.few;
-        block = taken.block;
-        first = omega arith;
-        rendered = taken.rendered;
-        rates = taken.rates;
-        controls = taken.controls;
-      }
-
-  pub stored_low : s * n + lane < 8192
-  stored_low =
-      let few : s ≤ 127 = omega arith in
-      let small : s * n ≤ 127 * 64 = mul-le-mul few taken.few in
-      omega arith
-
-  -- where it is stored
-  pub stored_in_lem : (s * n + lane < inner) × (s * n + lane < stretch) × (s * n + lane < add)
-  stored_in_lem =
-      let h : s * n + lane < rows * n = row_in s rows lane n hs hl in
-      (omega arith, omega arith, omega arith)
+pub stored_in_lem : {frames rows n : ℕ} {controls : ControlLengths} {inner stretch add : ℕ} → Takes frames rows n controls inner stretch add
+    → (lane s : ℕ) → lane < n → s < rows → (s * n + lane < inner) × (s * n + lane < stretch) × (s * n + lane < add)
+stored_in_lem {rows = rows} {n = n} taken lane s hl hs =
+    let h : s * n + lane < rows * n = row_in s rows lane n hs hl in
+    (omega arith, omega arith, omega arith)
 
 -- ---- one span
 

@@ -6,11 +6,16 @@ use mathlib.Core.List.{List}
 use lib.ListN.{length, take}
 use lib.Ieee.{Float, nan}
 use borrow.Author.Tests.{ne_eqb}
+use Rattle.std.specs.Prelude.{Result, Ok, Err}
+use Rattle.std.specs.Result.{IsErrAnd}
 use Rattle.grid.specs.Lanes.{Each}
 use Rattle.grid.proofs.CellLaws.{same_columns}
 use Rattle.grid.proofs.EachLaws.{each_unique}
 use Rattle.limits.specs.declared.answers.Answer.{Answer}
+use Rattle.limits.specs.declared.refusal.Refusal.{Refusal}
+use Rattle.limits.specs.Refusals.{line_of, number_of, answer_of}
 use Rattle.limits.specs.Lengths.{spans_of, curve_length}
+use Rattle.limits.proofs.LineLaws.{some_number}
 use Rattle.curve.specs.Curve.{steepest_of}
 use Rattle.controls.specs.Controls.{ControlBuffers, controls_of}
 use Rattle.spans.specs.Refusal.{prepare_refusal}
@@ -19,14 +24,17 @@ use Rattle.spans.proofs.RefusalLaws.{accepted}
 
 module _ (mode0 mode1 factor n active f rate : ℕ) (b : ControlBuffers) (curve : List Float) (w : Spans) where
   -- a call that is turned down
-  pub turned_down_lem : (number : ℕ) → number ≡ prepare_refusal mode0 mode1 factor n active f rate (lengths_of b curve w) → (number ≡ 0 → ⊥)
-      → Prepared mode0 mode1 factor n active f rate b curve w w (record { number = number; frames = 0 })
-  turned_down_lem number e ne =
+  pub turned_down_lem : (r : Result ℕ Refusal) (e : Refusal) → IsErrAnd r (λ x. x ≡ e)
+      → number_of {A = Unit {0}} (Err e) ≡ prepare_refusal mode0 mode1 factor n active f rate (lengths_of b curve w)
+      → Prepared mode0 mode1 factor n active f rate b curve w w (answer_of r)
+  unfolding answer_of number_of
+  turned_down_lem (Ok x) e handed is = absurd handed
+  turned_down_lem (Err x) e handed is =
       record {
-        number = e;
-        frames = rw (ne_eqb number 0 ne);
+        number = ap line_of handed ∙ is;
+        frames = rw (handed, ne_eqb (line_of e) 0 (some_number e));
         refused = λ h. refl;
-        lanes = λ z. absurd (ne z);
+        lanes = λ z. absurd (some_number e (sym (ap line_of handed) ∙ z));
         inner = refl;
         stretch = refl;
         add = refl;

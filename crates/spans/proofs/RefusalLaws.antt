@@ -4,9 +4,9 @@ use mathlib.Core.Bool.{false, ◌||◌}
 use Prim.Native.Nat.{ℕ, ◌+◌, ◌-◌, ◌*◌, ◌/◌, ◌≤◌, ◌<◌, max}
 use native.Mathlib.Nat.{mul-le-mul, div-lt_iff_lt-mul}
 use native.Mathlib.Omega.{arith}
-use Rattle.limits.specs.Lines.{first_of, number_lines, bad_modes, bad_factor, bad_lanes, bad_lane, bad_frames, bad_asked, bad_rate}
+use Rattle.limits.specs.Lines.{first_of, bad_modes, bad_factor, bad_lanes, bad_lane, bad_frames, bad_asked, bad_rate}
 use Rattle.limits.specs.Lengths.{spans_of, span_length, curve_length, shorter, short_controls}
-use Rattle.limits.proofs.LineLaws.{then_lengths, whole_table, no_line, or_false, the_factor, small_factor, good_lanes, good_lane, good_frames, good_asked, good_rate}
+use Rattle.limits.proofs.LineLaws.{no_line, or_false, the_factor, small_factor, good_lanes, good_lane, good_frames, good_asked, good_rate}
 use Rattle.limits.proofs.LengthLaws.{long_enough, controls_held, span_in, spans_small}
 use Rattle.spans.specs.declared.refusal.PrepareLengths.{PrepareLengths}
 use Rattle.spans.specs.Refusal.{prepare_reads_short, prepare_writes_short, prepare_refusal, stretch_reads_short, stretch_refusal}
@@ -19,21 +19,15 @@ spans_last : (f : ℕ) → spans_of f * 32 < f + 32
 unfolding spans_of
 spans_last f = omega arith
 
-pub prepare_table : (mode0 mode1 factor n active f rate : ℕ) (l : PrepareLengths)
-    → prepare_refusal mode0 mode1 factor n active f rate l
-    ≡ then_lengths (first_of (number_lines (bad_modes mode0 mode1) (bad_factor factor) (bad_lanes n active) (bad_frames f) (bad_rate rate) false))
-    (prepare_reads_short f n l) (prepare_writes_short f n l)
-unfolding prepare_refusal first_of
-prepare_table mode0 mode1 factor n active f rate l =
-    whole_table (bad_modes mode0 mode1) (bad_factor factor) (bad_lanes n active) (bad_frames f) (bad_rate rate) false
-    (prepare_reads_short f n l) (prepare_writes_short f n l)
-
 -- what an accepted call has
 pub record Accepted (mode0 mode1 factor n active f rate : ℕ) (l : PrepareLengths) : Type 0 where
   pub some : 1 ≤ n
   pub lanes : active ≤ n
   pub curves : curve_length ≤ l.curve
-  pub takes : Takes factor rate f (spans_of f) n l.controls l.inner l.stretch l.add
+  pub rendered : factor ≤ 8
+  pub rates : rate ≤ 192000
+  pub block : f ≤ 4096
+  pub takes : Takes f (spans_of f) n l.controls l.inner l.stretch l.add
 
 pub accepted : (mode0 mode1 factor n active f rate : ℕ) (l : PrepareLengths) → prepare_refusal mode0 mode1 factor n active f rate l ≡ 0
     → Accepted mode0 mode1 factor n active f rate l
@@ -51,13 +45,13 @@ accepted mode0 mode1 factor n active f rate l e =
       some = lanes.0;
       lanes = lanes.2;
       curves = long_enough curve_length l.curve read.1;
+      rendered = (small_factor factor p.numbers.factor).1;
+      rates = (good_rate rate p.numbers.rate).1;
+      block = good_frames f p.numbers.frames;
       takes =
           record {
             few = lanes.1;
-            block = good_frames f p.numbers.frames;
             last = spans_last f;
-            rendered = (small_factor factor p.numbers.factor).1;
-            rates = (good_rate rate p.numbers.rate).1;
             controls = controls_held f n l.controls read.0;
             inners = long_enough cells l.inner first.0;
             stretches = long_enough cells l.stretch first.1;
@@ -84,14 +78,6 @@ module _ (factor n active lane f first count from asked stretch add : ℕ) where
     pub looked : bad_asked factor f first count from asked ≡ false
     pub stretches : shorter (span_length f n) stretch ≡ false
     pub adds : shorter (span_length f n) add ≡ false
-
-  pub stretch_table : stretch_refusal factor n active lane f first count from asked stretch add
-      ≡ then_lengths (first_of (number_lines false (bad_factor factor) (bad_lane n active lane) (bad_asked factor f first count from asked) false false))
-      (stretch_reads_short f n stretch add) false
-  unfolding stretch_refusal first_of
-  stretch_table =
-      whole_table false (bad_factor factor) (bad_lane n active lane) (bad_asked factor f first count from asked) false false
-      (stretch_reads_short f n stretch add) false
 
   pub stretch_accepted : stretch_refusal factor n active lane f first count from asked stretch add ≡ 0 → StretchAccepted
   unfolding stretch_refusal first_of

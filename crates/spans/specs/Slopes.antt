@@ -1,5 +1,5 @@
 -- How steep the slots of a lane read in a sub-block of 32 host frames: `prepare` of mod.rs for one sub-block. Definitions only.
-use Rattle.std.specs.Prelude.{ℕ, zero, suc, ◌+◌, ◌-◌, ◌*◌, min, Bool, true, false, ◌||◌, List, get_or, Float}
+use Rattle.std.specs.Prelude.{ℕ, zero, suc, ◌+◌, ◌-◌, ◌*◌, min, Bool, true, false, ◌||◌, List, get_or, Float, Option as RustOption, Some, None, Result, Ok, Err}
 use Rattle.std.proofs.Math.Option.{Option, some, none}
 use Rattle.std.specs.Float.{nan}
 use Rattle.floats.specs.F32.{◌⊕◌, ◌⊖◌, ◌⊗◌, ◌⊘◌, bits, 0f, 1f, 100f, ½f}
@@ -7,7 +7,10 @@ use Rattle.floats.specs.Steps.{◌>>=◌, when◌then◌else◌}
 use Rattle.floats.specs.Sign.{abs_of}
 use Rattle.lanes.specs.Lane.{min_of, max_of}
 use Rattle.lanes.specs.Word.{two32}
-use Rattle.modes.specs.Facts.{Fact, given, refused, thru_zero, exponential, linear, Modulated, fm, phase_distortion, am, ring}
+use Rattle.limits.specs.declared.refusal.Refusal.{Refusal}
+use Rattle.modes.specs.declared.facts.FmType.TheVariants.{ThruZero, Exponential, Linear}
+use Rattle.modes.specs.declared.facts.Modulated.{Modulated}
+use Rattle.modes.specs.declared.facts.Modulated.TheVariants.{Fm, PhaseDistortion, Am, Ring}
 use Rattle.modes.specs.Table.{modulated_of, is_distortion}
 use Rattle.slope.specs.Slope.{stretch_of}
 use Rattle.voice.specs.PhaseRun.{whole, in_phase, fm_max_hz, fm_exponential}
@@ -82,15 +85,15 @@ unfoldable pub pd_slope : Float → Float → ℕ → Float
 pd_slope a step factor = a ⊗ ½f ⊗ (step ⊘ whole factor) ⊗ two32
 
 -- += match modulated; AM and Ring move the value and not the read
-abbrev pub added_by : Float → Swing → ℕ → Float → Float → Fact (Option Modulated) → Float
-added_by a w factor perHertz add (given (some (fm thru_zero))) = add ⊕ fm_slope a w.peak perHertz
-added_by a w factor perHertz add (given (some (fm exponential))) = add ⊕ fm_slope a (fm_exponential w.peak) perHertz
-added_by a w factor perHertz add (given (some (fm linear))) = add ⊕ fm_slope a w.peak perHertz
-added_by a w factor perHertz add (given (some phase_distortion)) = add ⊕ pd_slope a w.step factor
-added_by a w factor perHertz add (given (some am)) = add
-added_by a w factor perHertz add (given (some ring)) = add
-added_by a w factor perHertz add (given none) = add
-added_by a w factor perHertz add (refused n) = add
+abbrev pub added_by : Float → Swing → ℕ → Float → Float → Result (RustOption Modulated) Refusal → Float
+added_by a w factor perHertz add (Ok (Some (Fm ThruZero))) = add ⊕ fm_slope a w.peak perHertz
+added_by a w factor perHertz add (Ok (Some (Fm Exponential))) = add ⊕ fm_slope a (fm_exponential w.peak) perHertz
+added_by a w factor perHertz add (Ok (Some (Fm Linear))) = add ⊕ fm_slope a w.peak perHertz
+added_by a w factor perHertz add (Ok (Some PhaseDistortion)) = add ⊕ pd_slope a w.step factor
+added_by a w factor perHertz add (Ok (Some Am)) = add
+added_by a w factor perHertz add (Ok (Some Ring)) = add
+added_by a w factor perHertz add (Ok None) = add
+added_by a w factor perHertz add (Err _) = add
 
 unfoldable pub added_of : ℕ → Float → Swing → ℕ → Float → Float → Float
 added_of mode a w factor perHertz add = added_by a w factor perHertz add (modulated_of mode)

@@ -1,30 +1,21 @@
 // `PhaseRun::stretch`: how much faster than its phase a lane reads.
-ghost use Rattle.std.specs.Prelude.{◌≡◌, ◌≤◌, max, length};
+ghost use Rattle.std.specs.Prelude.{◌≡◌, ◌≤◌, length};
 ghost use Rattle.std.specs.Float.{nan};
 ghost use Rattle.grid.specs.Cells.{column};
-ghost use Rattle.spans.specs.Asked.{most_to, span_of, faster_by, faster_of, Faster};
-ghost use Rattle.spans.specs.Promises.{Rows, Asks};
+ghost use Rattle.limits.specs.Lengths.{spans_of};
+ghost use Rattle.limits.specs.Refusals.{valued_of};
+ghost use Rattle.spans.specs.Asked.{span_of, faster_by, faster_of, Faster};
+ghost use Rattle.spans.specs.Promises.{Asks};
 
-use crate::refusal::stretch_refused;
+use crate::refusal::{StretchNumbers, check_stretch};
+use crate::rows::LaneRows;
 use floats::nearest_u32;
-use grid::place;
+use grid::Lane;
 use lanes::max;
-use limits::{SUB_BLOCK, Valued, spans_of};
-
-// The largest of `k` rows from `from` on, at least `start`; a NaN is passed over.
-fn most_to(start: f32, xs: &[f32], rows: usize, n: usize, lane: usize, from: usize, k: usize) -> f32
-    requires { Rows rows n lane from k (length xs.now) }
-    ensures { result ≡ most_to start (column nan n lane rows xs.now) from k }
-{
-    let mut most = start;
-    for i in 0..k {
-        let at = place(from + i, n, lane);
-        most = max(most, xs[at]);
-    }
-    most
-}
+use limits::{Refusal, SUB_BLOCK, spans_of};
 
 // What the inter-oscillator modes add is absolute, so the ratio to the step is taken here.
+#[tactic(auto, unfolding(crate::specs::Asked::faster_by), using(floats::specs::Steps::taken, floats::specs::Steps::left))]
 fn faster_by(steepest: f32, added: f32, step: u32) -> f32
     ensures { result ≡ faster_by steepest added step }
 {
@@ -44,90 +35,33 @@ fn span_of(factor: u32, first: u32, frame: u32) -> usize
 }
 
 // Asked for none, it looks at its first frame.
-fn looked_at(asked: u32) -> u32
-    ensures { result ≡ max asked 1 }
+#[tactic(auto, unfolding(crate::specs::Asked::faster_of), using(floats::specs::Steps::step))]
+fn faster_of(call: StretchNumbers, stretch: &[f32], add: &[f32]) -> f32
+    requires { Asks call.factor call.first (spans_of call.frames) call.lanes call.lane call.asked_first call.asked (length stretch.now) (length add.now) }
+    ensures { result ≡ faster_of call.factor call.first
+        (column nan call.lanes call.lane (spans_of call.frames) stretch.now)
+        (column nan call.lanes call.lane (spans_of call.frames) add.now) call.asked_first call.asked call.step }
 {
-    if asked < 1 { 1 } else { asked }
+    let from = span_of(call.factor, call.first, call.asked_first);
+    let last = call.asked_first + call.asked.max(1) - 1;
+    let to = span_of(call.factor, call.first, last);
+    let rows = LaneRows {
+        lane: Lane {
+            lanes: call.lanes as usize,
+            index: call.lane as usize,
+        },
+        all: spans_of(call.frames as usize),
+        from,
+        count: to + 1 - from,
+    };
+    faster_by(rows.most(1.0, stretch), rows.most(0.0, add), call.step)
 }
 
-fn faster_of(
-    factor: u32,
-    first: u32,
-    rows: usize,
-    n: usize,
-    lane: usize,
-    from: u32,
-    asked: u32,
-    step: u32,
-    stretch: &[f32],
-    add: &[f32],
-) -> f32
-    requires { Asks factor first rows n lane from asked (length stretch.now) (length add.now) }
-    ensures { result ≡ faster_of factor first (column nan n lane rows stretch.now) (column nan n lane rows add.now) from asked step }
+// How much faster than its phase a lane reads, and the range's host frames.
+pub fn stretch(call: StretchNumbers, stretch: &[f32], add: &[f32]) -> Result<(u32, f32), Refusal>
+    ensures { Faster call.factor call.lanes call.active call.lane call.frames call.first call.count call.asked_first call.asked call.step
+        stretch.now add.now (valued_of result) }
 {
-    let frames = looked_at(asked);
-    let start = span_of(factor, first, from);
-    let last = span_of(factor, first, from + frames - 1);
-    let k = last + 1 - start;
-    let steepest = most_to(1.0, stretch, rows, n, lane, start, k);
-    let added = most_to(0.0, add, rows, n, lane, start, k);
-    faster_by(steepest, added, step)
-}
-
-// How much faster than its phase lane `lane` reads, over `asked` rendered frames from `asked_first` on,
-// counted from the start of the range of `count` host frames from `first` on.
-pub fn stretch(
-    factor: u32,
-    lanes: u32,
-    active: u32,
-    lane: u32,
-    frames: u32,
-    first: u32,
-    count: u32,
-    asked_first: u32,
-    asked: u32,
-    step: u32,
-    stretch: &[f32],
-    add: &[f32],
-) -> Valued
-    ensures { Faster factor lanes active lane frames first count asked_first asked step stretch.now add.now result }
-{
-    let number = stretch_refused(
-        factor,
-        lanes,
-        active,
-        lane,
-        frames,
-        first,
-        count,
-        asked_first,
-        asked,
-        stretch.len(),
-        add.len(),
-    );
-    if number != 0 {
-        return Valued {
-            number,
-            frames: 0,
-            value: 0.0,
-        };
-    }
-    let rows = spans_of(frames as usize);
-    let value = faster_of(
-        factor,
-        first,
-        rows,
-        lanes as usize,
-        lane as usize,
-        asked_first,
-        asked,
-        step,
-        stretch,
-        add,
-    );
-    Valued {
-        number: 0,
-        frames: count,
-        value,
-    }
+    check_stretch(call, stretch.len(), add.len())?;
+    Ok((call.count, faster_of(call, stretch, add)))
 }

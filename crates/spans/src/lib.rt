@@ -5,8 +5,11 @@
 pub mod asked;
 pub mod blocks;
 pub mod refusal;
+pub mod rows;
 pub mod slopes;
 
 pub use asked::stretch;
 pub use blocks::prepare;
-pub use slopes::{Swing, source_span};
+pub use refusal::{PrepareLengths, PrepareNumbers, StretchNumbers, check_prepare, check_stretch};
+pub use rows::LaneRows;
+pub use slopes::{Block, Swing};

@@ -1,18 +1,17 @@
 // One sub-block of a lane.
 ghost use Rattle.std.specs.Prelude.{◌≡◌, ◌+◌, ◌*◌, ◌<◌, ◌≤◌, length};
-ghost use Rattle.std.specs.Float.{nan};
-ghost use Rattle.floats.specs.Exp2.{entries};
-ghost use Rattle.grid.specs.Cells.{column};
-ghost use Rattle.controls.specs.Controls.{lent_of, control_buffers, control_lengths, controls_of};
-ghost use Rattle.limits.specs.Lengths.{Holds};
-ghost use Rattle.spans.specs.Slopes.{widened, bounds_to, bounds_of, swung, swing_to, steepest_at, reach_of, words_per_hertz, fm_slope, pd_slope, added_of, add_of, slot_span, distorts, start_span, span_at};
-ghost use Rattle.spans.specs.Promises.{Rows, Sub, Prepares};
+ghost use Rattle.controls.specs.Controls.{lent_of, control_lengths, controls_of};
+ghost use Rattle.controls.specs.Slices.{control_lists};
+ghost use Rattle.limits.specs.Lengths.{sub_block, Holds, ControlsHeld};
+ghost use Rattle.spans.specs.Slopes.{widened, bounds_of, swung, steepest_at, reach_of, words_per_hertz, fm_slope, pd_slope, added_of, add_of, slot_span, distorts, start_span, span_at};
 
+use crate::rows::LaneRows;
+use controls::ControlSlices;
 use floats::{abs, nearest_u32};
-use grid::place;
+use grid::Lane;
 use lanes::{max, min};
 use limits::SUB_BLOCK;
-use modes::{ModulatedFact, is_distortion};
+use modes::{FmType, Modulated, is_distortion};
 use slope::stretch_of;
 use voice::{FM_MAX_HZ, PD_MAX_CYCLES, fm_exponential, in_phase};
 
@@ -26,12 +25,55 @@ pub struct Bounds {
     pub high: f32,
 }
 
+impl Bounds {
+    #[tactic(auto, unfolding(crate::specs::Slopes::widened))]
+    pub fn widened(self, x: f32) -> Bounds
+        ensures { result ≡ widened self x }
+    {
+        Bounds {
+            low: min(self.low, x),
+            high: max(self.high, x),
+        }
+    }
+
+    // The slope of a map that is steeper at one of the two.
+    #[tactic(auto, unfolding(crate::specs::Slopes::steepest_at), using(floats::specs::Steps::step))]
+    fn steepest(self, mode: u32, curve: f32) -> f32
+        ensures { result ≡ steepest_at mode curve self }
+    {
+        let low = stretch_of(mode, self.low / 100.0, curve);
+        let high = stretch_of(mode, self.high / 100.0, curve);
+        max(low, high)
+    }
+
+    // How far from 0 the amount goes, 0 to 1.
+    #[tactic(auto, unfolding(crate::specs::Slopes::reach_of), using(floats::specs::Steps::step))]
+    fn reach(self) -> f32
+        ensures { result ≡ reach_of self }
+    {
+        min(max(abs(self.low), abs(self.high)), 100.0) / 100.0
+    }
+}
+
 // A source's peak, its steepest step, and its last number.
 #[derive(Clone, Copy)]
 pub struct Swing {
     pub peak: f32,
     pub step: f32,
     pub last: f32,
+}
+
+impl Swing {
+    #[tactic(auto, unfolding(crate::specs::Slopes::swung))]
+    pub fn on(self, x: f32) -> Swing
+        ensures { result ≡ swung self x }
+    {
+        Swing {
+            peak: max(self.peak, abs(x)),
+            step: max(self.step, abs(x - self.last)),
+            last: x,
+        }
+    }
 }
 
 // The steepest slope of slot 1, of both slots, and what the inter-oscillator modes add, in words a
@@ -43,305 +85,175 @@ pub struct Span {
     pub add: f32,
 }
 
-fn widen(b: Bounds, x: f32) -> Bounds
-    ensures { result ≡ widened b x }
-{
-    Bounds {
-        low: min(b.low, x),
-        high: max(b.high, x),
-    }
-}
-
-fn bounds_to(
-    base: f32,
-    modulation: &[f32],
-    frames: usize,
-    n: usize,
-    lane: usize,
-    from: usize,
-    k: usize,
-) -> Bounds
-    requires { Rows frames n lane from k (length modulation.now) }
-    ensures { result ≡ bounds_to base (column nan n lane frames modulation.now) from k }
-{
-    let mut b = Bounds {
-        low: f32::from_bits(0x7f80_0000),
-        high: f32::from_bits(0xff80_0000),
-    };
-    for i in 0..k {
-        let at = place(from + i, n, lane);
-        b = widen(b, base + modulation[at]);
-    }
-    b
-}
-
-fn bounds_of(
-    base: f32,
-    modulation: &[f32],
-    frames: usize,
-    n: usize,
-    lane: usize,
-    from: usize,
-    k: usize,
-) -> Bounds
-    requires fact_1 { Sub frames n lane from k }
-    requires fact_2 { Holds (frames * n) (length modulation.now) }
-    ensures { result ≡ bounds_of base (lent_of n lane frames modulation.now) from k }
-{
-    if modulation.len() == 0 {
-        return Bounds {
-            low: base,
-            high: base,
-        };
-    }
-    bounds_to(base, modulation, frames, n, lane, from, k)
-}
-
-fn swing_on(w: Swing, x: f32) -> Swing
-    ensures { result ≡ swung w x }
-{
-    Swing {
-        peak: max(w.peak, abs(x)),
-        step: max(w.step, abs(x - w.last)),
-        last: x,
-    }
-}
-
-// The source's peak and steepest step over `k` host frames from `from` on.
-pub fn source_span(
-    source: &[f32],
-    frames: usize,
-    n: usize,
-    lane: usize,
-    from: usize,
-    k: usize,
-) -> Swing
-    requires fact_1 { Rows frames n lane from k (length source.now) }
-    requires fact_2 { from < frames }
-    ensures { result ≡ swing_to (column nan n lane frames source.now) from k }
-{
-    let first = place(from, n, lane);
-    let mut w = Swing {
-        peak: 0.0,
-        step: 0.0,
-        last: source[first],
-    };
-    for i in 0..k {
-        let at = place(from + i, n, lane);
-        w = swing_on(w, source[at]);
-    }
-    w
-}
-
-fn steepest_at(powers: &[u32; 257], mode: u32, curve: f32, b: Bounds) -> f32
-    requires { powers.now ≡ entries }
-    ensures { result ≡ steepest_at mode curve b }
-{
-    let low = stretch_of(powers, mode, b.low / 100.0, curve);
-    let high = stretch_of(powers, mode, b.high / 100.0, curve);
-    max(low, high)
-}
-
-fn reach(b: Bounds) -> f32
-    ensures { result ≡ reach_of b }
-{
-    min(max(abs(b.low), abs(b.high)), 100.0) / 100.0
-}
-
-// FM's hertz as words a rendered frame.
-fn words_per_hertz(rate: u32, factor: u32) -> f32
-    requires { (rate ≤ 192000) × (factor ≤ 8) }
-    ensures { result ≡ words_per_hertz rate factor }
-{
-    TWO_32 / nearest_u32(rate * factor)
-}
-
+#[tactic(auto, unfolding(crate::specs::Slopes::fm_slope))]
 fn fm_slope(a: f32, x: f32, per_hertz: f32) -> f32
     ensures { result ≡ fm_slope a x per_hertz }
 {
     a * a * a * a * FM_MAX_HZ * x * per_hertz
 }
 
+#[tactic(auto, unfolding(crate::specs::Slopes::pd_slope))]
 fn pd_slope(a: f32, step: f32, factor: u32) -> f32
     ensures { result ≡ pd_slope a step factor }
 {
     a * PD_MAX_CYCLES * (step / nearest_u32(factor)) * TWO_32
 }
 
-fn added_of(
-    powers: &[u32; 257],
-    mode: u32,
-    a: f32,
-    w: Swing,
-    factor: u32,
-    per_hertz: f32,
-    add: f32,
-) -> f32
-    requires { powers.now ≡ entries }
+#[tactic(auto, unfolding(crate::specs::Slopes::added_of))]
+fn added_of(mode: u32, a: f32, w: Swing, factor: u32, per_hertz: f32, add: f32) -> f32
     ensures { result ≡ added_of mode a w factor per_hertz add }
 {
-    let modulated = modes::modulated(mode);
-    match modulated {
-        ModulatedFact::FmThruZero => add + fm_slope(a, w.peak, per_hertz),
-        ModulatedFact::FmExponential => add
-            + fm_slope(a, fm_exponential(powers, w.peak), per_hertz),
-        ModulatedFact::FmLinear => add + fm_slope(a, w.peak, per_hertz),
-        ModulatedFact::PhaseDistortion => add + pd_slope(a, w.step, factor),
+    match modes::modulated(mode) {
+        Ok(Some(Modulated::Fm(FmType::Exponential))) => {
+            add + fm_slope(a, fm_exponential(w.peak), per_hertz)
+        }
+        Ok(Some(Modulated::Fm(_))) => add + fm_slope(a, w.peak, per_hertz),
+        Ok(Some(Modulated::PhaseDistortion)) => add + pd_slope(a, w.step, factor),
         _ => add,
     }
 }
 
-fn add_of(
-    powers: &[u32; 257],
+// A slot of a lane over a sub-block: its base, and its modulation and source for all lanes.
+#[derive(Clone, Copy)]
+struct SlotRows<'a> {
     mode: u32,
-    b: Bounds,
-    source: &[f32],
-    frames: usize,
-    n: usize,
-    lane: usize,
-    from: usize,
-    k: usize,
-    factor: u32,
-    per_hertz: f32,
-    add: f32,
-) -> f32
-    requires fact_1 { powers.now ≡ entries }
-    requires fact_2 { Sub frames n lane from k }
-    requires fact_3 { Holds (frames * n) (length source.now) }
-    ensures { result ≡ add_of mode b (lent_of n lane frames source.now) from k factor per_hertz add }
-{
-    if source.len() == 0 {
-        return add;
-    }
-    let a = reach(b);
-    let w = source_span(source, frames, n, lane, from, k);
-    added_of(powers, mode, a, w, factor, per_hertz, add)
-}
-
-// One slot's share of the sub-block of `k` host frames from `from` on.
-fn slot_span(
-    powers: &[u32; 257],
-    second: bool,
-    mode: u32,
-    factor: u32,
-    per_hertz: f32,
-    curve: f32,
     base: f32,
-    modulation: &[f32],
-    source: &[f32],
-    frames: usize,
-    n: usize,
-    lane: usize,
-    from: usize,
-    k: usize,
-    span: Span,
-) -> Span
-    requires fact_1 { powers.now ≡ entries }
-    requires fact_2 { Sub frames n lane from k }
-    requires fact_3 { Holds (frames * n) (length modulation.now) }
-    requires fact_4 { Holds (frames * n) (length source.now) }
-    ensures { result ≡ slot_span second mode factor per_hertz curve base (lent_of n lane frames modulation.now) (lent_of n lane frames source.now) from k span }
-{
-    if in_phase(mode) {
-        let b = bounds_of(base, modulation, frames, n, lane, from, k);
-        let steepest = steepest_at(powers, mode, curve, b);
-        let add = add_of(
-            powers, mode, b, source, frames, n, lane, from, k, factor, per_hertz, span.add,
-        );
-        let inner = if second { steepest } else { span.inner };
-        return Span {
-            inner,
+    modulation: &'a [f32],
+    source: &'a [f32],
+    at: LaneRows,
+    ghost modulated: { Holds (at.all * at.lane.lanes) (length modulation.now) },
+    ghost sourced: { Holds (at.all * at.lane.lanes) (length source.now) },
+}
+
+impl SlotRows<'_> {
+    #[tactic(auto, unfolding(crate::specs::Slopes::bounds_of), using(controls::proofs::LentLaws::lent_none, controls::proofs::LentLaws::lent_some))]
+    fn bounds(self) -> Bounds
+        ensures { result ≡ bounds_of self.entry.base
+            (lent_of self.entry.at.lane.lanes self.entry.at.lane.index self.entry.at.all self.entry.modulation.now)
+            self.entry.at.from self.entry.at.count }
+    {
+        if self.modulation.is_empty() {
+            return Bounds {
+                low: self.base,
+                high: self.base,
+            };
+        }
+        self.at.bounds(self.base, self.modulation)
+    }
+
+    // `add` with the slope that its source adds.
+    #[tactic(auto, unfolding(crate::specs::Slopes::add_of), using(floats::specs::Steps::step, controls::proofs::LentLaws::lent_none, controls::proofs::LentLaws::lent_some))]
+    fn add_to(self, b: Bounds, factor: u32, per_hertz: f32, add: f32) -> f32
+        ensures { result ≡ add_of self.entry.mode b
+            (lent_of self.entry.at.lane.lanes self.entry.at.lane.index self.entry.at.all self.entry.source.now)
+            self.entry.at.from self.entry.at.count factor per_hertz add }
+    {
+        if self.source.is_empty() {
+            return add;
+        }
+        let swing = self.at.swing(self.source);
+        added_of(self.mode, b.reach(), swing, factor, per_hertz, add)
+    }
+
+    // `span` with the slot's share.
+    #[tactic(auto, unfolding(crate::specs::Slopes::slot_span), using(floats::specs::Steps::step, floats::specs::Steps::taken, floats::specs::Steps::left))]
+    fn span(self, second: bool, factor: u32, per_hertz: f32, curve: f32, span: Span) -> Span
+        ensures { result ≡ slot_span second self.entry.mode factor per_hertz curve self.entry.base
+            (lent_of self.entry.at.lane.lanes self.entry.at.lane.index self.entry.at.all self.entry.modulation.now)
+            (lent_of self.entry.at.lane.lanes self.entry.at.lane.index self.entry.at.all self.entry.source.now)
+            self.entry.at.from self.entry.at.count span }
+    {
+        if !in_phase(self.mode) {
+            return span;
+        }
+        let bounds = self.bounds();
+        let steepest = bounds.steepest(self.mode, curve);
+        Span {
+            inner: if second { steepest } else { span.inner },
             stretch: span.stretch * steepest,
-            add,
+            add: self.add_to(bounds, factor, per_hertz, span.add),
+        }
+    }
+}
+
+// What the spans of all lanes go by. `curve` is the lent curve's steepest slope.
+#[derive(Clone, Copy)]
+pub struct Block {
+    pub mode0: u32,
+    pub mode1: u32,
+    pub factor: u32,
+    pub rate: u32,
+    pub frames: usize,
+    pub curve: f32,
+    ghost rendered: { factor ≤ 8 },
+    ghost rates: { rate ≤ 192000 },
+    ghost few: { frames ≤ 4096 },
+}
+
+impl Block {
+    // FM's hertz as words a rendered frame.
+    #[tactic(auto, unfolding(crate::specs::Slopes::words_per_hertz), using(crate::proofs::ColumnLaws::small_rate))]
+    fn words_per_hertz(self) -> f32
+        ensures { result ≡ words_per_hertz self.rate self.factor }
+    {
+        TWO_32 / nearest_u32(self.rate * self.factor)
+    }
+
+    #[tactic(auto, unfolding(crate::specs::Slopes::distorts))]
+    fn distorts(self) -> bool
+        ensures { result ≡ distorts self.mode0 self.mode1 }
+    {
+        is_distortion(self.mode0) | is_distortion(self.mode1)
+    }
+
+    // A distortion makes harmonics of whatever it's given, so it's given a read band-limited to the host
+    // rate's Nyquist.
+    #[tactic(auto, unfolding(crate::specs::Slopes::start_span), using(floats::specs::Steps::taken, floats::specs::Steps::left))]
+    fn start(self) -> Span
+        ensures { result ≡ start_span self.mode0 self.mode1 self.factor }
+    {
+        Span {
+            inner: 1.0,
+            stretch: if self.distorts() {
+                nearest_u32(self.factor)
+            } else {
+                1.0
+            },
+            add: 0.0,
+        }
+    }
+
+    // Both slots of a lane's sub-block `s`.
+    #[tactic(auto, unfolding(crate::specs::Slopes::span_at), using(floats::specs::Steps::step))]
+    pub fn span_at(self, lane: Lane, s: usize, controls: &ControlSlices<'_>) -> Span
+        requires inside { s * sub_block < self.frames }
+        requires held { ControlsHeld self.frames lane.lanes (control_lengths (control_lists controls.now)) }
+        ensures { result ≡ span_at self.mode0 self.mode1 self.factor self.frames self.rate self.curve
+            (controls_of lane.lanes lane.index self.frames (control_lists controls.now)) s }
+    {
+        let from = s * SUB_BLOCK;
+        let at = LaneRows {
+            lane,
+            all: self.frames,
+            from,
+            count: SUB_BLOCK.min(self.frames - from),
         };
+        let slot1 = SlotRows {
+            mode: self.mode1,
+            base: controls.base1[lane.index],
+            modulation: controls.mod1,
+            source: controls.source1,
+            at,
+        };
+        let slot0 = SlotRows {
+            mode: self.mode0,
+            base: controls.base0[lane.index],
+            modulation: controls.mod0,
+            source: controls.source0,
+            at,
+        };
+        let per_hertz = self.words_per_hertz();
+        let one = slot1.span(true, self.factor, per_hertz, self.curve, self.start());
+        slot0.span(false, self.factor, per_hertz, self.curve, one)
     }
-    span
-}
-
-fn distorts(mode0: u32, mode1: u32) -> bool
-    ensures { result ≡ distorts mode0 mode1 }
-{
-    is_distortion(mode0) | is_distortion(mode1)
-}
-
-// A distortion makes harmonics of whatever it's given, so it's given a read band-limited to the host
-// rate's Nyquist.
-fn start_span(mode0: u32, mode1: u32, factor: u32) -> Span
-    ensures { result ≡ start_span mode0 mode1 factor }
-{
-    let stretch = if distorts(mode0, mode1) {
-        nearest_u32(factor)
-    } else {
-        1.0
-    };
-    Span {
-        inner: 1.0,
-        stretch,
-        add: 0.0,
-    }
-}
-
-// Both slots of sub-block `s`; `curve` is the lent curve's steepest slope.
-pub fn span_at(
-    powers: &[u32; 257],
-    mode0: u32,
-    mode1: u32,
-    factor: u32,
-    rate: u32,
-    curve: f32,
-    frames: usize,
-    n: usize,
-    lane: usize,
-    s: usize,
-    base0: &[f32],
-    base1: &[f32],
-    mod0: &[f32],
-    mod1: &[f32],
-    source0: &[f32],
-    source1: &[f32],
-) -> Span
-    requires powers_value { powers.now ≡ entries }
-    requires prepares { Prepares factor rate frames n lane s (control_lengths (control_buffers base0.now base1.now mod0.now mod1.now source0.now source1.now)) }
-    ensures { result ≡ span_at mode0 mode1 factor frames rate curve
-        (controls_of n lane frames (control_buffers base0.now base1.now mod0.now mod1.now source0.now source1.now)) s }
-{
-    let from = s * SUB_BLOCK;
-    let left = frames - from;
-    let k = if left < SUB_BLOCK { left } else { SUB_BLOCK };
-    let per_hertz = words_per_hertz(rate, factor);
-    let start = start_span(mode0, mode1, factor);
-    let one = slot_span(
-        powers,
-        true,
-        mode1,
-        factor,
-        per_hertz,
-        curve,
-        base1[lane],
-        mod1,
-        source1,
-        frames,
-        n,
-        lane,
-        from,
-        k,
-        start,
-    );
-    slot_span(
-        powers,
-        false,
-        mode0,
-        factor,
-        per_hertz,
-        curve,
-        base0[lane],
-        mod0,
-        source0,
-        frames,
-        n,
-        lane,
-        from,
-        k,
-        one,
-    )
 }

@@ -1,5 +1,5 @@
 -- The laws of lines and of numbers, for the proofs of this crate and of those above it.
 pub mod LineLaws
-pub mod ScanLaws
+pub mod NumberLaws
 pub mod WordLaws
 pub mod DecimalLaws

@@ -1,119 +1,59 @@
--- The laws of a line's words and their numbers, and when a line is none of seven numbers. Assumes nothing.
-use mathlib.Core.Path.{◌≡◌, refl, ap}
-use mathlib.Core.Bool.{Bool, true, false, cond, ◌&&◌}
-use mathlib.Core.List.{List, [], ◌∷◌, ◌++◌, append-nil}
-use Prim.Native.Nat.{ℕ, suc, ◌+◌, ◌-◌, ◌*◌, ◌≤◌}
+-- A line's words by std's `split`. Assumes nothing.
+use mathlib.Core.Path.{◌≡◌, refl, sym, ap, ◌∙◌}
+use mathlib.Core.Bool.{Bool, true, false, not}
+use mathlib.Core.List.{List, [], ◌∷◌, ◌++◌, append_assoc, append-nil}
+use Prim.Native.Nat.{ℕ, ◌+◌}
 use native.Mathlib.Omega.{arith}
-use lib.Dec.{ltb, eqb}
-use lib.ListN.{length, length-append}
-use borrow.Author.Tests.{ltb-false, le-ltb, ne_eqb}
+use lib.ListN.{length}
+use borrow.Author.Tests.{ne_eqb}
+use Rattle.std.specs.Prelude.{◌==◌}
+use Rattle.std.specs.List.{slice_split, onto_first, filter, count_by}
+use Rattle.std.proofs.lemmas.List.Splits.{length-slice_split}
 use Rattle.text.specs.Lines.{unless_empty}
-use Rattle.text.specs.Decimal.{blank, digit, words_from, value_from, value_of, digits, is_number, all_numbers, values_of, no_seven, seven_of_words}
+use Rattle.text.specs.Decimal.{blank, words_from, words_of}
 
--- ---- a word with a byte more
+-- the parts that blanks leave
+abbrev pub parts_of : List ℕ → List (List ℕ)
+parts_of line = slice_split blank line
 
-pub value_more : (v : ℕ) (w : List ℕ) (b : ℕ) → value_from v (w ++ (b ∷ [])) ≡ value_from v w * 10 + (b - 48)
-unfolding value_from
-value_more v [] b = refl
-value_more v (d ∷ w) b = value_more (v * 10 + (d - 48)) w b
+-- those that are not empty
+abbrev pub full_of : List (List ℕ) → List (List ℕ)
+full_of parts = filter (λ part. not (length part == 0)) parts
 
-pub digits_more : (w : List ℕ) (b : ℕ) → digits (w ++ (b ∷ [])) ≡ digits w && digit b
-unfolding digits
-digits_more [] b = by_digit (digit b)
+-- bytes before the first part
+onto : List ℕ → List (List ℕ) → List (List ℕ)
+onto w [] = w ∷ []
+onto w (part ∷ parts) = (w ++ part) ∷ parts
+
+onto_none : (line : List ℕ) → onto [] (parts_of line) ≡ parts_of line
+unfolding onto
+onto_none line = by_parts (parts_of line) (length-slice_split blank line)
   where
-    by_digit : (t : Bool) → t && true ≡ true && t
-    by_digit true = refl
-    by_digit false = refl
-digits_more (d ∷ w) b = by_digit (digit d) (digits_more w b)
-  where
-    by_digit : (t : Bool) → digits (w ++ (b ∷ [])) ≡ digits w && digit b → t && digits (w ++ (b ∷ [])) ≡ (t && digits w) && digit b
-    by_digit true e = e
-    by_digit false e = refl
+    by_parts : (parts : List (List ℕ)) → length parts ≡ count_by blank line + 1 → onto [] parts ≡ parts
+    by_parts [] e = absurd (omega arith)
+    by_parts (part ∷ parts) e = refl
 
--- ---- words
+onto_one : (w : List ℕ) (b : ℕ) (parts : List (List ℕ)) → onto w (onto_first b parts) ≡ onto (w ++ (b ∷ [])) parts
+unfolding onto
+onto_one w b [] = refl
+onto_one w b (part ∷ parts) = ap (λ (l : List ℕ). l ∷ parts) (sym (append_assoc w (b ∷ []) part))
 
-pub words_blank : (w : List ℕ) (b : ℕ) (bs : List ℕ) → blank b ≡ true → words_from w (b ∷ bs) ≡ unless_empty w ++ words_from [] bs
-unfolding words_from
-words_blank w b bs h = rw h
-
-pub words_more : (w : List ℕ) (b : ℕ) (bs : List ℕ) → blank b ≡ false → words_from w (b ∷ bs) ≡ words_from (w ++ (b ∷ [])) bs
-unfolding words_from
-words_more w b bs h = rw h
-
-pub values_append : (ws vs : List (List ℕ)) → values_of (ws ++ vs) ≡ values_of ws ++ values_of vs
-unfolding values_of
-values_append [] vs = refl
-values_append (w ∷ ws) vs = ap (λ (l : List ℕ). value_of w ∷ l) (values_append ws vs)
-
-pub length_values : (ws : List (List ℕ)) → length (values_of ws) ≡ length ws
-unfolding values_of
-length_values [] = refl
-length_values (w ∷ ws) = ap suc (length_values ws)
-
-pub numbers_append : (ws vs : List (List ℕ)) → all_numbers (ws ++ vs) ≡ all_numbers ws && all_numbers vs
-unfolding all_numbers
-numbers_append [] vs = refl
-numbers_append (w ∷ ws) vs = by_word (is_number w) (numbers_append ws vs)
-  where
-    by_word : (t : Bool) → all_numbers (ws ++ vs) ≡ all_numbers ws && all_numbers vs → t && all_numbers (ws ++ vs) ≡ (t && all_numbers ws) && all_numbers vs
-    by_word true e = e
-    by_word false e = refl
-
--- ---- where a line is none of seven numbers
-
-pub and_false : (a : Bool) → a && false ≡ false
-and_false true = refl
-and_false false = refl
-
--- a word that is no number stays none
-no_number_more : (w : List ℕ) (b : ℕ) → is_number w ≡ false → is_number (w ++ (b ∷ [])) ≡ false
-no_number_more w b h = rw (digits_more w b, value_more 0 w b) (by_digits (digits w) h)
-  where
-    by_digits : (t : Bool) → t && ltb (value_of w) 0x1_0000_0000 ≡ false
-        → (t && digit b) && ltb (value_of w * 10 + (b - 48)) 0x1_0000_0000 ≡ false
-    by_digits true e =
-        let large = ltb-false (value_of w) 0x1_0000_0000 e in
-        rw (le-ltb (value_of w * 10 + (b - 48)) 0x1_0000_0000 (omega arith)) (and_false (digit b))
-    by_digits false e = refl
-
-one_no_number : (w : List ℕ) (ws : List (List ℕ)) → is_number w ≡ false → all_numbers (unless_empty w ++ ws) ≡ false
-unfolding unless_empty all_numbers digits value_from
-one_no_number [] ws h = absurd (let z : ◌≡◌ {A = ℕ} 0 1 = cc in omega arith)
-one_no_number (b ∷ w) ws h = rw h
-
-some_no_number : (w : List ℕ) (bs : List ℕ) → is_number w ≡ false → all_numbers (words_from w bs) ≡ false
-unfolding words_from
-some_no_number w [] h = rw (← append-nil (unless_empty w)) (one_no_number w [] h)
-some_no_number w (b ∷ bs) h = by_blank (blank b) (some_no_number (w ++ (b ∷ [])) bs (no_number_more w b h))
-  where
-    by_blank : (t : Bool) → all_numbers (words_from (w ++ (b ∷ [])) bs) ≡ false
-        → all_numbers (cond t (unless_empty w ++ words_from [] bs) (words_from (w ++ (b ∷ [])) bs)) ≡ false
-    by_blank true e = one_no_number w (words_from [] bs) h
-    by_blank false e = e
-
-pub no_number_none : (ws : List (List ℕ)) (w bs : List ℕ) → is_number w ≡ false → seven_of_words (ws ++ words_from w bs) ≡ no_seven
-unfolding seven_of_words
-no_number_none ws w bs h =
-    rw (numbers_append ws (words_from w bs), some_no_number w bs h, and_false (all_numbers ws), and_false (eqb (length (ws ++ words_from w bs)) 7))
-
--- a word that has begun counts
-begun_counts : (w : List ℕ) (ws : List (List ℕ)) → 1 ≤ length w → 1 ≤ length (unless_empty w ++ ws)
+full_first : (w : List ℕ) (parts : List (List ℕ)) → full_of (w ∷ parts) ≡ unless_empty w ++ full_of parts
 unfolding unless_empty
-begun_counts [] ws h = absurd (omega arith)
-begun_counts (b ∷ w) ws h = omega arith
+full_first [] parts = refl
+full_first (b ∷ w) parts = rw (ne_eqb (length (b ∷ w)) 0 (λ e. omega arith))
 
-word_counts : (w bs : List ℕ) → 1 ≤ length w → 1 ≤ length (words_from w bs)
-unfolding words_from
-word_counts w [] h = rw (← append-nil (unless_empty w)) (begun_counts w [] h)
-word_counts w (b ∷ bs) h = by_blank (blank b) (word_counts (w ++ (b ∷ [])) bs (simp length-append (omega arith)))
+words_more : (w line : List ℕ) → full_of (onto w (parts_of line)) ≡ words_from w line
+unfolding words_from onto
+words_more w [] = rw (append-nil w) (full_first w [] ∙ append-nil (unless_empty w))
+words_more w (b ∷ bs) = by_blank (blank b) refl (words_more [] bs) (words_more (w ++ (b ∷ [])) bs)
   where
-    by_blank : (t : Bool) → 1 ≤ length (words_from (w ++ (b ∷ [])) bs)
-        → 1 ≤ length (cond t (unless_empty w ++ words_from [] bs) (words_from (w ++ (b ∷ [])) bs))
-    by_blank true e = begun_counts w (words_from [] bs) h
-    by_blank false e = e
+    by_blank : (t : Bool) → blank b ≡ t → full_of (onto [] (parts_of bs)) ≡ words_from [] bs
+        → full_of (onto (w ++ (b ∷ [])) (parts_of bs)) ≡ words_from (w ++ (b ∷ [])) bs
+        → full_of (onto w (parts_of (b ∷ bs))) ≡ words_from w (b ∷ bs)
+    by_blank true h e _ =
+        rw (h, append-nil w, full_first w (parts_of bs)) (ap (λ (l : List (List ℕ)). unless_empty w ++ l) (ap full_of (sym (onto_none bs)) ∙ e))
+    by_blank false h _ e = rw (h, onto_one w b (parts_of bs)) e
 
-pub eight_none : (ws : List (List ℕ)) (w bs : List ℕ) → 7 ≤ length ws → 1 ≤ length w → seven_of_words (ws ++ words_from w bs) ≡ no_seven
-unfolding seven_of_words
-eight_none ws w bs full h =
-    let some = word_counts w bs h in
-    rw (ne_eqb (length (ws ++ words_from w bs)) 7 (λ e. omega (arith, length-append ws (words_from w bs))))
+pub words_found : (line : List ℕ) → full_of (parts_of line) ≡ words_of line
+words_found line = ap full_of (sym (onto_none line)) ∙ words_more [] line

@@ -1,4 +1,3 @@
 -- The definitions that contracts cite. Their laws are in proofs/.
 pub mod Lines
 pub mod Decimal
-pub mod Scan

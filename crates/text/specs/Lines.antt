@@ -1,6 +1,5 @@
 -- The lines of a text: how it is cut, and the step that a reader takes with each byte. Definitions only.
-use Rattle.std.specs.Prelude.{Bool, true, false, cond, not, ◌&&◌, List, [], ◌∷◌, ◌++◌, ℕ, min, eqb, ltb, take}
-use Rattle.text.specs.declared.lines.Line.{Line}
+use Rattle.std.specs.Prelude.{Bool, true, false, cond, if◌then◌else◌, Option, Some, None, List, [], ◌∷◌, ◌++◌, ℕ, eqb, take}
 
 -- the byte that ends a line
 abbrev pub newline : ℕ
@@ -57,14 +56,6 @@ lines_by r (b ∷ bs) =
     let next = with_byte r b in
     cond next.ended (next.bytes ∷ lines_by next bs) (lines_by next bs)
 
--- what a buffer and a `Line` stand for
-abbrev pub reading : List ℕ → Line → Reading
-reading buffer l = record { bytes = take l.length buffer; ended = l.ended }
-
--- how many of the buffer's bytes have begun a line
-unfoldable pub begun_length : Line → ℕ
-begun_length l = cond l.ended 0 (min l.length line_length)
-
--- whether what has begun is not empty
-abbrev pub left_over : Line → Bool
-left_over l = not l.ended && ltb 0 l.length
+-- the line, where its end has come
+unfoldable pub ended_line : Reading → Option (List ℕ)
+ended_line r = if r.ended then Some r.bytes else None

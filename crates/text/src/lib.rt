@@ -4,5 +4,5 @@
 pub mod decimal;
 pub mod lines;
 
-pub use decimal::{Seven, seven_of};
-pub use lines::{Line, left_over, line_bytes, no_line, with_byte};
+pub use decimal::seven_of;
+pub use lines::Line;

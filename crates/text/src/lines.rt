@@ -1,84 +1,74 @@
-// Lines from bytes. A program lends a buffer of 255 bytes and gives each byte of its input to `with_byte`;
-// where a line has ended, or is `left_over` at the input's end, `line_bytes` are its bytes.
-ghost use Rattle.std.specs.Prelude.{◌≡◌, List, ℕ, ◌≤◌};
-ghost use Rattle.text.specs.Lines.{reading, unread, with_byte, begun_length, left_over};
+// Lines from bytes. A program gives each byte of its input to `Line::push`; where a line has ended, or is left over at
+// the input's end, it has the line's bytes.
+ghost use Rattle.std.specs.Prelude.{◌≡◌, ◌≤◌, length};
+ghost use Rattle.std.specs.Option.{option_map, option_to_list};
+ghost use Rattle.text.specs.Lines.{unread, begun, with_byte, ended_line, unless_empty};
+
+use arrayvec::ArrayVec;
+use std::marker::Model;
 
 // The bytes that are kept of a line.
 const KEPT: usize = 255;
 
-// How many of the buffer's bytes are the line's, and whether its end has come. A length above 255 counts as 255.
-#[derive(Clone, Copy)]
+// A line as it is read: the bytes that are kept of it, and whether its end has come.
+#[derive(Drop)]
 pub struct Line {
-    pub length: usize,
-    pub ended: bool,
+    kept: ArrayVec<u8, KEPT>,
+    has_ended: bool,
 }
 
-// What a program starts with.
-pub fn no_line() -> Line
-    ensures by_index { (buffer : List ℕ) → reading buffer result ≡ unread }
-    ensures length_bound { result.length ≤ 255 }
-{
-    Line {
-        length: 0,
-        ended: false,
-    }
+impl Model for Line {
+    ghost use Rattle.std.specs.Prelude.{◌≤◌, length};
+    ghost use Rattle.text.specs.Lines.{Reading};
+
+    ghost Value = { Reading };
+
+    ghost view = { λ l. record { bytes = l.kept.items; ended = l.has_ended } };
+
+    ghost invariant = { λ l. length l.kept.items ≤ 255 };
 }
 
-// How many bytes stand before the next one: none, where a line has just ended.
-fn begun_length(line: Line) -> usize
-    ensures value { result ≡ begun_length line }
-    ensures upper_bound { result ≤ 255 }
-{
-    if line.ended {
-        return 0;
+impl Line {
+    // What a program starts with.
+    pub fn new() -> Line
+        ensures { result ≡ unread }
+    {
+        Line {
+            kept: ArrayVec::new(),
+            has_ended: false,
+        }
     }
-    if line.length < KEPT {
-        line.length
-    } else {
-        KEPT
-    }
-}
 
-// One byte more. After a line that has ended the next begins; of a longer line than 255 bytes the rest is dropped.
-pub fn with_byte(buffer: &mut [u8; 255], line: Line, byte: u8) -> Line
-    ensures result_after { reading buffer.new result ≡ with_byte (reading buffer.old line) byte }
-    ensures length_bound { result.length ≤ 255 }
-{
-    // as a slice it tells its length
-    let whole: &[u8] = buffer;
-    let most = whole.len();
-    let at = begun_length(line);
-    if byte == b'\n' {
-        return Line {
-            length: at,
-            ended: true,
-        };
+    // One byte more. After a line that has ended the next begins; of a longer line than 255 bytes the rest is dropped.
+    #[tactic(auto, using(crate::proofs::LineLaws::kept_room, crate::proofs::LineLaws::kept_full, std::proofs::lemmas::Bool::Decides::nat_tests), unfolding(crate::specs::Lines::with_byte, crate::specs::Lines::begun))]
+    pub fn push(&mut self, byte: u8)
+        ensures after { self.new ≡ with_byte self.old byte }
+        ensures length_bound { length self.new.bytes ≤ 255 }
+    {
+        if self.has_ended {
+            self.kept.clear();
+        }
+        self.has_ended = byte == b'\n';
+        if self.has_ended || self.kept.is_full() {
+            return;
+        }
+        self.kept.push(byte);
     }
-    if most <= at {
-        return Line {
-            length: at,
-            ended: false,
-        };
-    }
-    buffer[at] = byte;
-    Line {
-        length: at + 1,
-        ended: false,
-    }
-}
 
-// A line's bytes: the buffer's first `length`.
-pub fn line_bytes(buffer: &[u8; 255], line: Line) -> &[u8]
-    ensures { result.now ≡ (reading buffer.now line).bytes }
-{
-    let whole: &[u8] = buffer;
-    let n = line.length;
-    if n <= whole.len() { &whole[..n] } else { whole }
-}
+    // The line, where its end has come.
+    #[tactic(auto, unfolding(crate::specs::Lines::ended_line))]
+    pub fn ended(&self) -> Option<&[u8]>
+        ensures { option_map (λ line. line.now) result ≡ ended_line self.now }
+    {
+        self.has_ended.then_some(self.kept.as_slice())
+    }
 
-// At the input's end: whether a line is left that had no end and is not empty.
-pub fn left_over(line: Line) -> bool
-    ensures { result ≡ left_over line }
-{
-    !line.ended & (0 < line.length)
+    // At the input's end: a line that had no end, unless it is empty.
+    #[tactic(auto, unfolding(crate::specs::Lines::begun, crate::specs::Lines::unless_empty))]
+    pub fn left_over(&self) -> Option<&[u8]>
+        ensures { option_to_list (option_map (λ line. line.now) result) ≡ unless_empty (begun self.now) }
+    {
+        let is_left_over = !self.has_ended && !self.kept.is_empty();
+        is_left_over.then_some(self.kept.as_slice())
+    }
 }

@@ -2,70 +2,62 @@
 // a picture, pass, 4,097 is 4; a curve of 1,025 entries passes, one of 1,024 is 7. The calls are asked with
 // lengths alone.
 use block::{CallNumbers, ReadLengths, WriteLengths};
-use limits::ControlLengths;
-use spans::refusal::{PrepareLengths, prepare_refused};
+use curve::Curve;
+use limits::{ControlLengths, Refusal};
+use spans::{PrepareLengths, PrepareNumbers};
 
-// What a call is asked for, and its number.
+// What a call is asked for, and why it is turned down, if it is.
 #[derive(Clone, Copy)]
 struct Boundary {
     mode: u32,
     lanes: u32,
     frames: u32,
     entries: usize,
-    number: u32,
+    refusal: Option<Refusal>,
 }
 
-fn asked(mode: u32, lanes: u32, frames: u32, entries: usize, number: u32) -> Boundary {
-    Boundary {
-        mode,
-        lanes,
-        frames,
-        entries,
-        number,
-    }
-}
-
-// Every boundary passed at once, then each of them missed.
-pub const BOUNDARIES: u64 = 5;
-
-fn boundary_at(i: u64) -> Boundary {
-    match i {
-        0 => asked(69, 64, 4096, 1025, 0),
-        1 => asked(70, 64, 4096, 1025, 1),
-        2 => asked(69, 65, 4096, 1025, 3),
-        3 => asked(69, 64, 4097, 1025, 4),
-        _ => asked(69, 64, 4096, 1024, 7),
-    }
-}
+// Every boundary passed at once.
+const PASSED: Boundary = Boundary {
+    mode: 69,
+    lanes: 64,
+    frames: 4096,
+    entries: 1025,
+    refusal: None,
+};
 
 // As long as the longest buffer that a call asks for: 8 x 4,096 x 64 cells.
 const LONG: usize = 0x20_0000;
 
-fn long_controls() -> ControlLengths {
-    ControlLengths {
-        base0: LONG,
-        base1: LONG,
-        mod0: LONG,
-        mod1: LONG,
-        source0: LONG,
-        source1: LONG,
-    }
-}
+const LONG_CONTROLS: ControlLengths = ControlLengths {
+    base0: LONG,
+    base1: LONG,
+    mod0: LONG,
+    mod1: LONG,
+    source0: LONG,
+    source1: LONG,
+};
 
-fn prepare_number(b: Boundary) -> u32 {
+fn check_preparation(b: Boundary) -> Result<(), Refusal> {
+    let block = PrepareNumbers {
+        mode0: b.mode,
+        mode1: b.mode,
+        factor: 8,
+        lanes: b.lanes,
+        active: b.lanes,
+        frames: b.frames,
+        rate: 192000,
+    };
     let lengths = PrepareLengths {
-        controls: long_controls(),
+        controls: LONG_CONTROLS,
         curve: b.entries,
         inner: LONG,
         stretch: LONG,
         add: LONG,
     };
-    prepare_refused(
-        b.mode, b.mode, 8, b.lanes, b.lanes, b.frames, 192000, lengths,
-    )
+    spans::check_prepare(block, lengths)
 }
 
-fn run_number(b: Boundary) -> u32 {
+fn check_run(b: Boundary) -> Result<(), Refusal> {
     let call = CallNumbers {
         mode0: b.mode,
         mode1: b.mode,
@@ -81,7 +73,7 @@ fn run_number(b: Boundary) -> u32 {
         count2: 12,
     };
     let reads = ReadLengths {
-        controls: long_controls(),
+        controls: LONG_CONTROLS,
         curve: b.entries,
         cycle: LONG,
         words: LONG,
@@ -98,55 +90,67 @@ fn run_number(b: Boundary) -> u32 {
         last: LONG,
         dec: LONG,
     };
-    block::refused(call, reads, writes)
+    block::check(call, reads, writes)
 }
 
-fn decimate_number(b: Boundary) -> u32 {
-    halfband::refused(8, b.lanes, b.lanes, b.frames, 12, 12, 12, LONG, LONG, LONG)
+fn check_decimation(b: Boundary) -> Result<(), Refusal> {
+    let call = halfband::CallNumbers {
+        factor: 8,
+        lanes: b.lanes,
+        active: b.lanes,
+        frames: b.frames,
+    };
+    halfband::check(call, [12, 12, 12], LONG, LONG, LONG)
 }
 
 // Of a picture of as many points as the others have frames.
-fn picture_number(b: Boundary) -> u32 {
-    preview::refused(b.mode, b.mode, b.frames as usize, b.entries, LONG, LONG)
+fn check_picture(b: Boundary) -> Result<(), Refusal> {
+    preview::check(b.mode, b.mode, b.frames as usize, b.entries, LONG, LONG)
 }
 
-fn curve_number(b: Boundary) -> u32 {
+fn check_curve(b: Boundary) -> Result<(), Refusal> {
     let whole = [0.0f32; 1025];
-    let short = [0.0f32; 1024];
-    let answer = if b.entries < 1025 {
-        curve::value(&short, 0.5)
-    } else {
-        curve::value(&whole, 0.5)
-    };
-    answer.number
+    Curve::new(whole.get(..b.entries).unwrap_or(&whole))?;
+    Ok(())
 }
 
-// A number of a call that has only the lines from `first` to `last`.
-fn among(number: u32, first: u32, last: u32) -> u32 {
-    if (number < first) | (last < number) {
-        0
-    } else {
-        number
-    }
+// Whether each call is turned down for this, or is accepted where it has no such line.
+fn is_kept(b: Boundary) -> bool {
+    let among = |lines: &[Refusal]| b.refusal.filter(|refusal| lines.contains(refusal));
+    check_preparation(b).err() == b.refusal
+        && check_run(b).err() == b.refusal
+        && check_decimation(b).err() == among(&[Refusal::Lanes, Refusal::Frames])
+        && check_curve(b).err() == among(&[Refusal::ShortRead])
+        && check_picture(b).err() == among(&[Refusal::Mode, Refusal::Frames, Refusal::ShortRead])
 }
 
-// A picture has no lanes.
-fn kept(b: Boundary) -> bool {
-    let expected = if b.number == 3 { 0 } else { b.number };
-    (prepare_number(b) == b.number)
-        & (run_number(b) == b.number)
-        & (decimate_number(b) == among(b.number, 2, 6))
-        & (curve_number(b) == among(b.number, 7, 7))
-        & (picture_number(b) == expected)
-}
+// How many there are: every boundary passed at once, then each of them missed.
+pub const BOUNDARIES: u64 = 5;
 
 // How many of them are kept.
 pub fn boundaries_kept() -> u64 {
-    let mut count: u64 = 0;
-    for i in 0..BOUNDARIES {
-        if kept(boundary_at(i)) {
-            count = std::num::wrapping_add_u64(count, 1);
-        }
-    }
-    count
+    let boundaries = [
+        PASSED,
+        Boundary {
+            mode: 70,
+            refusal: Some(Refusal::Mode),
+            ..PASSED
+        },
+        Boundary {
+            lanes: 65,
+            refusal: Some(Refusal::Lanes),
+            ..PASSED
+        },
+        Boundary {
+            frames: 4097,
+            refusal: Some(Refusal::Frames),
+            ..PASSED
+        },
+        Boundary {
+            entries: 1024,
+            refusal: Some(Refusal::ShortRead),
+            ..PASSED
+        },
+    ];
+    boundaries.iter().filter(|b| is_kept(**b)).count() as u64
 }

@@ -7,30 +7,31 @@
 
 mod blocks;
 mod boundaries;
-mod by_lanes;
+mod line;
+mod renders;
 mod settings;
-mod text;
-
-ghost use Rattle.std.specs.Prelude.{◌≡◌};
-ghost use Rattle.floats.specs.Exp2.{entries};
 
 use answers::answer::answer;
-use answers::random::ModesRun;
-use answers::runs::{Hashed, modes_run, ran};
+use answers::runs::{Hashed, ModesRun, ran, table};
 use blocks::block_hash;
 use boundaries::{BOUNDARIES, boundaries_kept};
 use call_answers::block_cells::curve_of;
-use call_answers::runs::calls_hash;
+use call_answers::singles::{reads_hash, samples_hash};
+use call_answers::stretches::{spans_hash, stretches_hash};
 use file_answers::examples::{EXAMPLES, examples_kept};
 use file_answers::runs::file_hash;
-use floats::POWERS;
 use level_answers::searches::level_hash;
+use line::Line;
 use picture_answers::pictures::picture_hash;
+use renders::{by_block, by_lanes};
 use std::io;
-use std::io::Read;
+use std::io::{BufRead, BufReader};
 
 // The lines that are read at the most.
 const LINES: usize = 100000;
+
+// The operation of the block run's runs.
+const BLOCK: u32 = 0x60;
 
 #[derive(Clone, Copy)]
 struct Tally {
@@ -38,83 +39,73 @@ struct Tally {
     total: u64,
 }
 
-// Calls about one lane or about a block's spans, about a block's ranges, pictures, patch files, or levels.
-fn called_hash(table: &[f32; 1025], op: u32, run: ModesRun) -> u64 {
-    match op {
-        0x60 => block_hash(table, run, false),
+impl Tally {
+    fn one(passed: bool) -> Tally {
+        Tally {
+            passed: u64::from(passed),
+            total: 1,
+        }
+    }
+
+    // A run counts as many as it has and passes whole.
+    fn whole(run: Hashed, hash: u64) -> Tally {
+        Tally {
+            passed: if run.hash == hash { run.count } else { 0 },
+            total: run.count,
+        }
+    }
+
+    // Counts are kept below 2^63 by the number of lines.
+    fn added(self, more: Tally) -> Tally {
+        Tally {
+            passed: self.passed.wrapping_add(more.passed),
+            total: self.total.wrapping_add(more.total),
+        }
+    }
+}
+
+// A run of cases; from 0x50 on they are calls about one lane or about a block's spans, about a block's ranges,
+// pictures, patch files, or levels. An operation is the lines' number; each stands in this table alone.
+fn hashed(table: &[f32; 1025], op: u32, words: [u32; 2]) -> Hashed {
+    let run = ModesRun::new(words);
+    let hash = match op {
+        0x00..=0x4f => return ran(table, op, words),
+        0x50 => reads_hash(table, run),
+        0x51 => samples_hash(run),
+        0x52 => spans_hash(run),
+        BLOCK => block_hash(table, run, by_block),
         0x61 => picture_hash(&curve_of(table, run.seed), run),
         0x62 => file_hash(run),
         0x63 => level_hash(run),
-        _ => calls_hash(table, op, run),
-    }
-}
-
-fn called(table: &[f32; 1025], op: u32, run: ModesRun) -> Hashed {
-    Hashed {
-        count: run.count as u64,
-        hash: called_hash(table, op, run),
-    }
-}
-
-// A run of cases; from 0x50 on they are calls.
-fn hashed(powers: &[u32; 257], table: &[f32; 1025], op: u32, a: u32, b: u32) -> Hashed
-    requires { powers.now ≡ entries }
-{
-    if op < 0x50 {
-        ran(powers, table, op, a, b)
-    } else {
-        called(table, op, modes_run(a, b))
-    }
-}
-
-// A run counts as many as it has and passes whole.
-fn whole(run: Hashed, hash: u64) -> Tally {
-    Tally {
-        passed: if run.hash == hash { run.count } else { 0 },
-        total: run.count,
-    }
-}
-
-// The runs of the block run once more, by lanes' calls: the hash is the same.
-fn replay_lanes(table: &[f32; 1025], run: ModesRun, hash: u64) -> Tally {
-    let by_lanes = Hashed {
-        count: run.count as u64,
-        hash: block_hash(table, run, true),
+        _ => stretches_hash(run),
     };
-    whole(by_lanes, hash)
+    Hashed {
+        count: u64::from(run.count),
+        hash,
+    }
+}
+
+// A run of the block run once more, by lanes' calls: the hash is the same.
+fn hashed_by_lanes(table: &[f32; 1025], words: [u32; 2]) -> Hashed {
+    let run = ModesRun::new(words);
+    Hashed {
+        count: u64::from(run.count),
+        hash: block_hash(table, run, by_lanes),
+    }
 }
 
 // One line: an answer, or a run of random ones.
-fn replay(powers: &[u32; 257], table: &[f32; 1025], line: &[u8; 39]) -> Tally
-    requires { powers.now ≡ entries }
-{
-    let op = text::byte(line);
-    let a = text::word(line, 3);
-    let b = text::word(line, 12);
-    let c = text::word(line, 21);
-    let e = text::word(line, 30);
-    if op < 0x80 {
-        let right = answer(powers, table, op, a, b, c) == e;
-        Tally {
-            passed: if right { 1 } else { 0 },
-            total: 1,
-        }
+fn replay(table: &[f32; 1025], line: Line) -> Tally {
+    let [a, b, c, d] = line.words;
+    let Some(op) = line.op.checked_sub(0x80) else {
+        return Tally::one(answer(table, line.op, [a, b, c]) == d);
+    };
+    let hash = (u64::from(c) << 32) + u64::from(d);
+    let run = Tally::whole(hashed(table, op, [a, b]), hash);
+    if op == BLOCK {
+        run.added(Tally::whole(hashed_by_lanes(table, [a, b]), hash))
     } else {
-        let hash = ((c as u64) << 32) + (e as u64);
-        let run = whole(hashed(powers, table, op - 0x80, a, b), hash);
-        if op == 0xe0 {
-            added(run, replay_lanes(table, modes_run(a, b), hash))
-        } else {
-            run
-        }
-    }
-}
-
-// Counts are kept below 2^63 by the number of lines.
-fn added(t: Tally, more: Tally) -> Tally {
-    Tally {
-        passed: std::num::wrapping_add_u64(t.passed, more.passed),
-        total: std::num::wrapping_add_u64(t.total, more.total),
+        run
     }
 }
 
@@ -128,19 +119,19 @@ fn kept() -> Tally {
         passed: examples_kept(),
         total: EXAMPLES,
     };
-    added(boundaries, examples)
+    boundaries.added(examples)
 }
 
 fn main(rt: HostRuntime) -> io::Result<()> {
-    let powers = POWERS;
-    let table = answers::random::table();
+    let table = table();
     let mut tally = kept();
-    for _ in 0..LINES {
-        let mut line = [0u8; 39];
-        if rt.stdin().read_exact(&mut line).is_err() {
-            break;
-        }
-        tally = added(tally, replay(&powers, &table, &line));
+    let input = BufReader::new(rt.alloc(), rt.reader())?;
+    for line in input.lines(rt.alloc()).take(LINES) {
+        // A damaged line is none that the library gives.
+        tally = tally.added(match line?.parse() {
+            Ok(line) => replay(&table, line),
+            Err(_) => Tally::one(false),
+        });
     }
     println!(rt; "{} of {}", tally.passed, tally.total)
 }

@@ -1,8 +1,9 @@
 // The numbers of a block: as they are drawn, and as a call with a fault has them.
-use answers::random::ModesRun;
+use answers::runs::ModesRun;
 use block::BlockSettings;
-use call_answers::numbers::{Draws, character_of, frames_of, lanes_of, put, rate_of};
-use halfband::{Design, Designs};
+use call_answers::faults::{Fault, put};
+use call_answers::numbers::{Draws, character_of, frames_of, lanes_of, rate_of};
+use halfband::Designs;
 use phase::Slot;
 use shaper::Settings;
 
@@ -38,49 +39,17 @@ pub fn block_of(run: ModesRun, d: Draws, designs: Designs) -> BlockSettings {
     }
 }
 
-fn faulted_designs(d: Designs, fault: u32) -> Designs {
-    let last = d.stages[0];
-    let middle = d.stages[1];
-    let first = d.stages[2];
-    let coefs0 = last.coefs;
-    let coefs2 = first.coefs;
-    let last = Design {
-        coefs: coefs0,
-        count: put(fault, 4, 13, last.count),
-    };
-    let first = Design {
-        coefs: coefs2,
-        count: put(fault, 8, 0, first.count),
-    };
-    Designs {
-        stages: [last, middle, first],
-    }
-}
-
 // The block's numbers as a call with the fault has them.
-pub fn faulted(b: BlockSettings, fault: u32) -> BlockSettings {
-    let s = b.shaper;
-    let numbers = s.numbers;
-    let designs = b.designs;
-    let slot0 = Slot {
-        mode: put(fault, 0, 70, s.slot0.mode),
-        character: s.slot0.character,
-    };
-    let slot1 = Slot {
-        mode: put(fault, 1, 70, s.slot1.mode),
-        character: s.slot1.character,
-    };
-    let shaper = Settings {
-        slot0,
-        slot1,
-        factor: put(fault, 2, 3, s.factor),
-        lanes: s.lanes,
-        frames: put(fault, 6, 0, s.frames),
-        numbers,
-    };
-    BlockSettings {
-        shaper,
-        rate: put(fault, 9, 7999, b.rate),
-        designs: faulted_designs(designs, fault),
-    }
+pub fn faulted(block: BlockSettings, fault: Option<Fault>) -> BlockSettings {
+    let mut b = block;
+    let s = block.shaper;
+    let [last, _, first] = block.designs.stages;
+    b.shaper.slot0.mode = put(fault, Fault::Mode0, 70, s.slot0.mode);
+    b.shaper.slot1.mode = put(fault, Fault::Mode1, 70, s.slot1.mode);
+    b.shaper.factor = put(fault, Fault::Factor, 3, s.factor);
+    b.shaper.frames = put(fault, Fault::NoFrames, 0, s.frames);
+    b.rate = put(fault, Fault::Rate, 7999, b.rate);
+    b.designs.stages[0].count = put(fault, Fault::ManyCoefs, 13, last.count);
+    b.designs.stages[2].count = put(fault, Fault::NoCoefs, 0, first.count);
+    b
 }

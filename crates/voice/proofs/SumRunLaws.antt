@@ -5,20 +5,22 @@ use mathlib.Core.Path.{◌≡◌, refl}
 use mathlib.Core.Bool.{Bool, true, false, ◌||◌}
 use mathlib.Core.List.{List, [], ◌∷◌}
 use lib.Ieee.{Float}
+use Rattle.std.specs.Prelude.{Option, Some, None}
 use Rattle.floats.specs.F32.{◌⊗◌}
 use Rattle.floats.specs.Steps.{◌>>=◌, when◌then◌else◌, left}
 use Rattle.lanes.specs.Word.{add_words}
 use Rattle.reads.specs.declared.lists.ReadList.{ReadList}
-use Rattle.reads.specs.Reads.{start_of, move_first, shift_of, outgoing_of, one_read, cycle_at, read_sum}
+use Rattle.reads.specs.Reads.{start_of, move_first, shift_of, one_read, cycle_at, read_sum}
 use Rattle.phase.specs.declared.map.Slot.{Slot}
-use Rattle.phase.specs.Sums.{apply_if, shift_if}
+use Rattle.phase.specs.Map.{apply_of}
+use Rattle.phase.specs.Setting.{setting_of, setting_if}
+use Rattle.phase.specs.Sums.{apply_if, shift_if, sum_of}
 use Rattle.voice.specs.declared.control.Control.{Control}
 use Rattle.voice.specs.declared.phase_run.Offset.{Offset}
-use Rattle.voice.specs.declared.phase_run.Moved.{Moved}
 use Rattle.voice.specs.declared.sum_run.Slide.{Slide}
 use Rattle.voice.specs.declared.sum_run.Summed.{Summed}
-use Rattle.voice.specs.PhaseRun.{in_phase, offset_of, moved_of, map_slot, half_width, list_of, reads_of}
-use Rattle.voice.specs.SumRun.{slide_of, summed_of}
+use Rattle.voice.specs.PhaseRun.{in_phase, offset_if, moved_by, moved_of, map_slot, half_width, list_of, reads_of}
+use Rattle.voice.specs.SumRun.{slide_by, slide_of, both_of, summed_of}
 
 -- ---- two shifts are one, by the sum of the offsets
 add_both : (w a b : ℕ) → add_words (add_words w b) a ≡ add_words w (add_words b a)
@@ -54,34 +56,34 @@ shift_as : (r : ReadList) (a b : ℕ) → ((w : ℕ) → add_words w a ≡ add_w
 unfolding shift_of
 shift_as r a b e = rw (move_as a b e (max r.count 1) r.word)
 
-abbrev moved : Bool → Offset → ReadList → Float → Moved
-moved t o r carry = when t then record { list = shift_of r o.word; carry = o.carry } else record { list = r; carry = carry }
+same_carry : (o : Option Offset) (r : ReadList) (carry : Float) → (moved_by o r carry).carry ≡ (slide_by o carry).carry
+same_carry (Some o) r carry = refl
+same_carry None r carry = refl
 
-abbrev slid : Bool → Offset → Float → Slide
-slid t o carry = when t then record { moves = true; word = o.word; carry = o.carry } else record { moves = false; word = 0; carry = carry }
+same_list : (o₀ o₁ : Option Offset) (r : ReadList) (fm0 fm1 : Float)
+    → (moved_by o₀ (moved_by o₁ r fm1).list fm0).list ≡ shift_if (both_of (slide_by o₁ fm1).word (slide_by o₀ fm0).word) r
+unfolding both_of shift_if
+same_list (Some o₀) (Some o₁) r fm0 fm1 = shift_both r o₀.word o₁.word
+same_list (Some o₀) None r fm0 fm1 = shift_as r o₀.word _ (λ w. add_none w o₀.word)
+same_list None (Some o₁) r fm0 fm1 = shift_as r o₁.word _ (λ w. add_none' w o₁.word)
+same_list None None r fm0 fm1 = refl
 
-same_carry : (t : Bool) (o : Offset) (r : ReadList) (carry : Float) → (moved t o r carry).carry ≡ (slid t o carry).carry
-unfolding when◌then◌else◌
-same_carry true o r carry = refl
-same_carry false o r carry = refl
-
-same_list : (t₀ t₁ : Bool) (o₀ o₁ : Offset) (r : ReadList) (fm0 fm1 : Float)
-    → (moved t₀ o₀ (moved t₁ o₁ r fm1).list fm0).list ≡ shift_if ((slid t₀ o₀ fm0).moves || (slid t₁ o₁ fm1).moves) (add_words (slid t₁ o₁ fm1).word (slid t₀ o₀ fm0).word) r
-unfolding when◌then◌else◌ shift_if
-same_list true true o₀ o₁ r fm0 fm1 = shift_both r o₀.word o₁.word
-same_list true false o₀ o₁ r fm0 fm1 = shift_as r o₀.word _ (λ w. add_none w o₀.word)
-same_list false true o₀ o₁ r fm0 fm1 = shift_as r o₁.word _ (λ w. add_none' w o₁.word)
-same_list false false o₀ o₁ r fm0 fm1 = refl
+-- a slot's map, if it is on
+mapped_if : (on : Bool) (sk ak table : List Float) (slot : Slot) (a h : Float) (r : ReadList)
+    → apply_if sk ak table (setting_if on slot a h) r ≡ (when on then apply_of sk ak table slot a h r else r)
+unfolding apply_if setting_if setting_of when◌then◌else◌
+mapped_if true sk ak table slot a h r = refl
+mapped_if false sk ak table slot a h r = refl
 
 -- ---- the law: the sum of the list that both slots make, moved once
-abbrev summed : List Float → List Float → List Float → List Float → Slot → Slot → Control → Control → Float → Float → ℕ → Slide → Slide → Summed
+abbrev pub summed : List Float → List Float → List Float → List Float → Slot → Slot → Control → Control → Float → Float → ℕ → Slide → Slide → Summed
 summed cycle sk ak curve slot0 slot1 control0 control1 h0 h1 word s0 s1 =
     record {
       x =
-          read_sum cycle
-          (outgoing_of
-          (shift_if (s0.moves || s1.moves) (add_words s1.word s0.word)
-          (apply_if (in_phase slot0.mode) sk ak curve slot0 control0.amount h0 (apply_if (in_phase slot1.mode) sk ak curve slot1 control1.amount h1 (start_of word)))));
+          sum_of false cycle
+          (shift_if (both_of s1.word s0.word)
+          (apply_if sk ak curve (setting_if (in_phase slot0.mode) slot0 control0.amount h0)
+          (apply_if sk ak curve (setting_if (in_phase slot1.mode) slot1 control1.amount h1) (start_of word))));
       fm0 = s0.carry;
       fm1 = s1.carry;
     }
@@ -90,11 +92,11 @@ pub list_summed : (cycle sk ak curve : List Float) (slot0 slot1 : Slot) (factor 
     → summed cycle sk ak curve slot0 slot1 control0 control1 (half_width increment factor ⊗ inner) (half_width increment factor) word
     (slide_of slot0.mode control0 scale increment fm0) (slide_of slot1.mode control1 scale increment fm1)
     ≡ summed_of cycle (list_of sk ak curve slot0 slot1 factor scale control0 control1 inner word increment fm0 fm1)
-unfolding summed_of list_of moved_of slide_of map_slot apply_if ◌>>=◌
+unfolding summed_of list_of moved_of slide_of map_slot sum_of ◌>>=◌
 list_summed cycle sk ak curve slot0 slot1 factor scale control0 control1 inner word increment fm0 fm1 =
-    let o₀ = offset_of slot0.mode control0 scale increment fm0 in
-    let o₁ = offset_of slot1.mode control1 scale increment fm1 in
-    rw (same_list _ _ o₀ o₁ _ fm0 fm1, same_carry _ o₀ _ fm0, same_carry _ o₁ _ fm1)
+    let o₀ = offset_if slot0.mode control0 scale increment fm0 in
+    let o₁ = offset_if slot1.mode control1 scale increment fm1 in
+    rw (mapped_if, mapped_if, left _ _ refl, same_list o₀ o₁ _ fm0 fm1, same_carry o₀ _ fm0, same_carry o₁ _ fm1)
 
 -- without a slot in the phase stage it is the one read
 pub none_summed : (cycle sk ak curve : List Float) (slot0 slot1 : Slot) (factor : ℕ) (scale : Float) (control0 control1 : Control) (inner : Float) (word step : ℕ) (fm0 fm1 : Float)

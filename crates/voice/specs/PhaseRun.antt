@@ -1,7 +1,6 @@
 -- The phase stage of one lane at one rendered frame: `PhaseRun` of mod.rs, its carry in and out by value. `a` is a slot's amount, 0 to 1,
 -- s its source's value, `increment` the phase's step, in cycles a rendered frame. Definitions only.
-use Rattle.std.specs.Prelude.{ℕ, ◌*◌, Bool, true, false, ◌||◌, ◌&&◌, List, pos, Float}
-use Rattle.std.proofs.Math.Option.{Option, some, none}
+use Rattle.std.specs.Prelude.{ℕ, ◌*◌, Bool, true, false, ◌||◌, List, pos, Float, Option, Some, None, Result, Ok, Err}
 use Rattle.std.specs.Float.Ieee as Ieee
 use Rattle.std.specs.Float.{binary32}
 use Rattle.floats.specs.F32.{◌⊕◌, ◌⊖◌, ◌⊗◌, ◌⊘◌, bits, 2f, ½f}
@@ -10,7 +9,16 @@ use Rattle.floats.specs.Floor.{floor_of}
 use Rattle.floats.specs.Exp2.{exp2_of}
 use Rattle.lanes.specs.Lane.{max_of}
 use Rattle.lanes.specs.Word.{signed_of, to_word}
-use Rattle.modes.specs.Facts.{Fact, given, refused, Source, osc1, osc2, noise, sub, filter1, filter2, own, Stage, is_phase, FmType, thru_zero, exponential, linear, Modulated, fm, phase_distortion, am, ring}
+use Rattle.std.specs.Option.{option_map}
+use Rattle.limits.specs.declared.refusal.Refusal.{Refusal}
+use Rattle.modes.specs.declared.facts.Source.{Source}
+use Rattle.modes.specs.declared.facts.Source.TheVariants.{Osc1, Osc2, Noise, Sub, Filter1, Filter2, Own}
+use Rattle.modes.specs.declared.facts.FmType.{FmType}
+use Rattle.modes.specs.declared.facts.FmType.TheVariants.{ThruZero, Exponential, Linear}
+use Rattle.modes.specs.declared.facts.Modulated.{Modulated}
+use Rattle.modes.specs.declared.facts.Modulated.TheVariants.{Fm, PhaseDistortion, Am, Ring}
+use Rattle.modes.specs.declared.facts.Stage.{Stage}
+use Rattle.modes.specs.Stage.{is_phase}
 use Rattle.modes.specs.Table.{source_of, stage_of, modulated_of}
 use Rattle.reads.specs.declared.lists.ReadList.{ReadList}
 use Rattle.reads.specs.Reads.{one_read, start_of, shift_of, outgoing_of}
@@ -26,24 +34,24 @@ use Rattle.voice.specs.declared.phase_run.Reads.{Reads}
 abbrev pub whole : ℕ → Float
 whole n = Ieee.of_int binary32 (pos n)
 
-abbrev pub says_phase : Fact Stage → Bool
-says_phase (given s) = is_phase s
-says_phase (refused n) = false
+abbrev pub says_phase : Result Stage Refusal → Bool
+says_phase (Ok s) = is_phase s
+says_phase (Err _) = false
 
 -- self.on[slot]
 unfoldable pub in_phase : ℕ → Bool
 in_phase mode = says_phase (stage_of mode)
 
-abbrev pub says_own : Fact (Option Source) → Bool
-says_own (given (some own)) = true
-says_own (given (some osc1)) = false
-says_own (given (some osc2)) = false
-says_own (given (some noise)) = false
-says_own (given (some sub)) = false
-says_own (given (some filter1)) = false
-says_own (given (some filter2)) = false
-says_own (given none) = false
-says_own (refused n) = false
+abbrev pub says_own : Result (Option Source) Refusal → Bool
+says_own (Ok (Some Own)) = true
+says_own (Ok (Some Osc1)) = false
+says_own (Ok (Some Osc2)) = false
+says_own (Ok (Some Noise)) = false
+says_own (Ok (Some Sub)) = false
+says_own (Ok (Some Filter1)) = false
+says_own (Ok (Some Filter2)) = false
+says_own (Ok None) = false
+says_own (Err _) = false
 
 -- mode.source() == Some(Source::Own)
 unfoldable pub is_own : ℕ → Bool
@@ -83,39 +91,46 @@ carried_on carry cycles = do
 
 -- match kind: the source's value scaled, and linear FM kept from moving backwards
 unfoldable pub fm_offset : FmType → Float → Float → Float → Float → Float → Offset
-fm_offset thru_zero a s scale increment carry = do
+fm_offset ThruZero a s scale increment carry = do
   cycles ← fm_cycles a scale s
   carried_on carry cycles
-fm_offset exponential a s scale increment carry = do
+fm_offset Exponential a s scale increment carry = do
   scaled ← fm_exponential s
   cycles ← fm_cycles a scale scaled
   carried_on carry cycles
-fm_offset linear a s scale increment carry = do
+fm_offset Linear a s scale increment carry = do
   cycles ← fm_cycles a scale s
   kept ← max_of cycles (Ieee.neg increment)
   carried_on carry kept
 
 -- match modulated; PD_MAX_CYCLES is one half
-abbrev pub offset_by : Float → Float → Float → Float → Float → Fact (Option Modulated) → Offset
-offset_by a s scale increment carry (given (some (fm kind))) = fm_offset kind a s scale increment carry
-offset_by a s scale increment carry (given (some phase_distortion)) = record { word = to_word (a ⊗ ½f ⊗ s); carry = carry }
-offset_by a s scale increment carry (given (some am)) = record { word = 0; carry = carry }
-offset_by a s scale increment carry (given (some ring)) = record { word = 0; carry = carry }
-offset_by a s scale increment carry (given none) = record { word = 0; carry = carry }
-offset_by a s scale increment carry (refused n) = record { word = 0; carry = carry }
+abbrev pub offset_by : Float → Float → Float → Float → Float → Result (Option Modulated) Refusal → Offset
+offset_by a s scale increment carry (Ok (Some (Fm kind))) = fm_offset kind a s scale increment carry
+offset_by a s scale increment carry (Ok (Some PhaseDistortion)) = record { word = to_word (a ⊗ ½f ⊗ s); carry = carry }
+offset_by a s scale increment carry (Ok (Some Am)) = record { word = 0; carry = carry }
+offset_by a s scale increment carry (Ok (Some Ring)) = record { word = 0; carry = carry }
+offset_by a s scale increment carry (Ok None) = record { word = 0; carry = carry }
+offset_by a s scale increment carry (Err _) = record { word = 0; carry = carry }
 
--- `offset_of`, for a slot that has a source
-unfoldable pub offset_of : ℕ → Control → Float → Float → Float → Offset
-offset_of mode control scale increment carry = offset_by control.amount control.source scale increment carry (modulated_of mode)
+-- `offset_of`, for a slot that hears s
+unfoldable pub offset_of : ℕ → Float → Float → Float → Float → Float → Offset
+offset_of mode a s scale increment carry = offset_by a s scale increment carry (modulated_of mode)
 
--- if self.modulated[slot] && self.sources[slot].is_some()
+-- what an inter-oscillator mode hears: self.sources[slot] if self.modulated[slot]
+abbrev pub heard_of : ℕ → Control → Option Float
+heard_of mode control = when is_modulated mode then control.source else None
+
+-- a slot's offset, if it hears anything
+unfoldable pub offset_if : ℕ → Control → Float → Float → Float → Option Offset
+offset_if mode control scale increment carry = option_map (λ s. offset_of mode control.amount s scale increment carry) (heard_of mode control)
+
+-- the list moved on by the offset
+abbrev pub moved_by : Option Offset → ReadList → Float → Moved
+moved_by None list carry = record { list = list; carry = carry }
+moved_by (Some offset) list carry = record { list = shift_of list offset.word; carry = offset.carry }
+
 unfoldable pub moved_of : ℕ → Control → Float → Float → ReadList → Float → Moved
-moved_of mode control scale increment list carry =
-    when is_modulated mode && control.sourced
-    then (do
-      offset ← offset_of mode control scale increment carry
-      record { list = shift_of list offset.word; carry = offset.carry })
-    else record { list = list; carry = carry }
+moved_of mode control scale increment list carry = moved_by (offset_if mode control scale increment carry) list carry
 
 -- one slot's map, if it is in the phase stage
 unfoldable pub map_slot : List Float → List Float → List Float → Slot → Control → Float → ReadList → ReadList

@@ -1,22 +1,28 @@
 -- The phase stage, summed. Definitions only.
-use Rattle.std.specs.Prelude.{ℕ, true, false, ◌&&◌, List, Float}
-use Rattle.floats.specs.Steps.{◌>>=◌, when◌then◌else◌}
+use Rattle.std.specs.Prelude.{ℕ, Option, Some, None, List, Float}
+use Rattle.lanes.specs.Word.{add_words}
 use Rattle.reads.specs.Reads.{read_sum}
-use Rattle.wave.specs.Slot.{is_modulated}
 use Rattle.voice.specs.declared.control.Control.{Control}
+use Rattle.voice.specs.declared.phase_run.Offset.{Offset}
 use Rattle.voice.specs.declared.phase_run.Reads.{Reads}
 use Rattle.voice.specs.declared.sum_run.Slide.{Slide}
 use Rattle.voice.specs.declared.sum_run.Summed.{Summed}
-use Rattle.voice.specs.PhaseRun.{offset_of}
+use Rattle.voice.specs.PhaseRun.{offset_if}
 
 -- how a slot moves the reads, as `moved_of` has it
+abbrev pub slide_by : Option Offset → Float → Slide
+slide_by None carry = record { word = None; carry = carry }
+slide_by (Some offset) carry = record { word = Some offset.word; carry = offset.carry }
+
 unfoldable pub slide_of : ℕ → Control → Float → Float → Float → Slide
-slide_of mode control scale increment carry =
-    when is_modulated mode && control.sourced
-    then (do
-      offset ← offset_of mode control scale increment carry
-      record { moves = true; word = offset.word; carry = offset.carry })
-    else record { moves = false; word = 0; carry = carry }
+slide_of mode control scale increment carry = slide_by (offset_if mode control scale increment carry) carry
+
+-- how both slots move them
+unfoldable pub both_of : Option ℕ → Option ℕ → Option ℕ
+both_of None None = None
+both_of None (Some word0) = Some (add_words 0 word0)
+both_of (Some word1) None = Some (add_words word1 0)
+both_of (Some word1) (Some word0) = Some (add_words word1 word0)
 
 -- the sum of the reads, with both slots' carry
 unfoldable pub summed_of : List Float → Reads → Summed

@@ -17,7 +17,7 @@ tracks mode0 mode1 = (in_wave mode0 || in_wave mode1) && (is_own mode0 || is_own
 -- one slot of `shape_of`; a slot that is not in the wave stage has no setting and leaves the sample
 unfoldable pub slot_of : List Float → Slot → Control → Float → Float → Svf → Filtered
 slot_of sk slot control increment x state = do
-  setting ← setting_of slot.mode control.amount slot.character control.sourced control.source
+  setting ← setting_of slot.mode control.amount slot.character control.source
   shape_of sk slot.mode setting increment x state
 
 -- a filter or a distortion

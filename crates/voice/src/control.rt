@@ -1,7 +1,21 @@
-// What drives a slot at one rendered frame: its amount, 0 to 1, and what it hears where it has a source.
+// What a slot shapes with at one rendered frame.
+ghost use Rattle.std.specs.Prelude.{◌≡◌};
+ghost use Rattle.voice.specs.Power.{power_of};
+
+use phase::Slot;
+
+// What drives a slot: its amount, 0 to 1, and what it hears, if it has a source.
 #[derive(Clone, Copy)]
 pub struct Control {
     pub amount: f32,
-    pub sourced: bool,
-    pub source: f32,
+    pub source: Option<f32>,
+}
+
+// A slot with what drives it, and its power at that amount.
+#[derive(Clone, Copy)]
+pub(crate) struct Driven {
+    pub slot: Slot,
+    pub control: Control,
+    pub power: f32,
+    ghost powered: { power ≡ power_of slot.mode control.amount },
 }

@@ -1,15 +1,14 @@
 // The phase stage: the read list of a lane, with the FM carry of its two slots.
-ghost use Rattle.std.specs.Prelude.{◌≡◌, ◌<◌, ◌≤◌, length};
-ghost use Rattle.floats.specs.Exp2.{entries};
-ghost use Rattle.modes.specs.Facts.{thru_zero, exponential, linear};
+ghost use Rattle.std.specs.Prelude.{◌≡◌, ◌≤◌};
+ghost use Rattle.phase.specs.Setting.{setting_if};
 ghost use Rattle.voice.specs.Power.{power_of};
-ghost use Rattle.voice.specs.PhaseRun.{in_phase, is_own, fm_exponential, fm_scale, fm_cycles, carried_on, fm_offset, offset_of, moved_of, map_slot, half_width, list_of, reads_of};
+ghost use Rattle.voice.specs.PhaseRun.{in_phase, is_own, fm_exponential, fm_scale, fm_cycles, carried_on, fm_offset, offset_of, offset_if, moved_of, map_slot, half_width, list_of, reads_of};
 
-use crate::control::Control;
+use crate::control::{Control, Driven};
 use floats::{exp2, floor, nearest_u32};
-use lanes::{Numbers, max, signed, to_word};
-use modes::{ModulatedFact, SourceFact, StageFact};
-use phase::Slot;
+use lanes::{max, signed, to_word};
+use modes::{FmType, Modulated, Source, Stage};
+use phase::{MapSetting, Slot, Tables};
 use reads::{LaneReads, ReadList};
 use wave::is_modulated;
 
@@ -45,38 +44,33 @@ pub struct Reads {
 }
 
 // Whether a slot with this mode acts on the read list.
+#[tactic(auto, unfolding(crate::specs::PhaseRun::in_phase))]
 pub fn in_phase(mode: u32) -> bool
     ensures { result ≡ in_phase mode }
 {
-    let stage = modes::stage(mode);
-    match stage {
-        StageFact::Phase => true,
-        _ => false,
-    }
+    matches!(modes::stage(mode), Ok(Stage::Phase))
 }
 
 // Whether the mode reads the oscillator's own signal.
+#[tactic(auto, unfolding(crate::specs::PhaseRun::is_own))]
 pub fn is_own(mode: u32) -> bool
     ensures { result ≡ is_own mode }
 {
-    let source = modes::source(mode);
-    match source {
-        SourceFact::Own => true,
-        _ => false,
-    }
+    matches!(modes::source(mode), Ok(Some(Source::Own)))
 }
 
 // Exponential FM's scaling of the source's value.
-pub fn fm_exponential(powers: &[u32; 257], s: f32) -> f32
-    requires { powers.now ≡ entries }
+pub fn fm_exponential(s: f32) -> f32
     ensures { result ≡ fm_exponential s }
 {
-    let up = exp2(powers, s);
-    let down = exp2(powers, -s);
+    let up = exp2(s);
+    let down = exp2(-s);
     (up - down) / (2.0 * 0.693_147_2)
 }
 
-// FM's reach as cycles a rendered frame.
+// FM's reach as cycles a rendered frame. Crate spans divides the words of a cycle in the same way, under a definition of
+// its own.
+#[tactic(auto, unfolding(crate::specs::PhaseRun::fm_scale))]
 pub fn fm_scale(rate: u32, factor: u32) -> f32
     requires { (rate ≤ 192000) × (factor ≤ 8) }
     ensures { result ≡ fm_scale rate factor }
@@ -84,6 +78,7 @@ pub fn fm_scale(rate: u32, factor: u32) -> f32
     FM_MAX_HZ / nearest_u32(rate * factor)
 }
 
+#[tactic(auto, unfolding(crate::specs::PhaseRun::fm_cycles))]
 fn fm_cycles(a: f32, scale: f32, s: f32) -> f32
     ensures { result ≡ fm_cycles a scale s }
 {
@@ -91,6 +86,7 @@ fn fm_cycles(a: f32, scale: f32, s: f32) -> f32
 }
 
 // Wrapped to ±½ cycle, where it means the same.
+#[tactic(auto, unfolding(crate::specs::PhaseRun::carried_on), using(floats::specs::Steps::steps))]
 fn carried_on(carry: f32, cycles: f32) -> Offset
     ensures { result ≡ carried_on carry cycles }
 {
@@ -102,48 +98,26 @@ fn carried_on(carry: f32, cycles: f32) -> Offset
     }
 }
 
-fn fm_thru_zero(a: f32, s: f32, scale: f32, increment: f32, carry: f32) -> Offset
-    ensures { result ≡ fm_offset thru_zero a s scale increment carry }
-{
-    carried_on(carry, fm_cycles(a, scale, s))
-}
-
-fn fm_exp(powers: &[u32; 257], a: f32, s: f32, scale: f32, increment: f32, carry: f32) -> Offset
-    requires { powers.now ≡ entries }
-    ensures { result ≡ fm_offset exponential a s scale increment carry }
-{
-    let scaled = fm_exponential(powers, s);
-    carried_on(carry, fm_cycles(a, scale, scaled))
-}
-
 // Linear FM stops at 0 Hz: the read never moves backwards.
-fn fm_linear(a: f32, s: f32, scale: f32, increment: f32, carry: f32) -> Offset
-    ensures { result ≡ fm_offset linear a s scale increment carry }
+#[tactic(auto, unfolding(crate::specs::PhaseRun::fm_offset), using(floats::specs::Steps::steps))]
+fn fm_offset(kind: FmType, a: f32, s: f32, scale: f32, increment: f32, carry: f32) -> Offset
+    ensures { result ≡ fm_offset kind a s scale increment carry }
 {
-    let cycles = max(fm_cycles(a, scale, s), -increment);
-    carried_on(carry, cycles)
+    match kind {
+        FmType::ThruZero => carried_on(carry, fm_cycles(a, scale, s)),
+        FmType::Exponential => carried_on(carry, fm_cycles(a, scale, fm_exponential(s))),
+        FmType::Linear => carried_on(carry, max(fm_cycles(a, scale, s), -increment)),
+    }
 }
 
-// The offset of a slot that has a source: FM carries a running one, phase distortion's is direct.
-pub fn offset_of(
-    powers: &[u32; 257],
-    mode: u32,
-    control: Control,
-    scale: f32,
-    increment: f32,
-    carry: f32,
-) -> Offset
-    requires { powers.now ≡ entries }
-    ensures { result ≡ offset_of mode control scale increment carry }
+// The offset of a slot that hears `s`: FM carries a running one, phase distortion's is direct.
+#[tactic(auto, unfolding(crate::specs::PhaseRun::offset_of))]
+pub fn offset_of(mode: u32, a: f32, s: f32, scale: f32, increment: f32, carry: f32) -> Offset
+    ensures { result ≡ offset_of mode a s scale increment carry }
 {
-    let a = control.amount;
-    let s = control.source;
-    let modulated = modes::modulated(mode);
-    match modulated {
-        ModulatedFact::FmThruZero => fm_thru_zero(a, s, scale, increment, carry),
-        ModulatedFact::FmExponential => fm_exp(powers, a, s, scale, increment, carry),
-        ModulatedFact::FmLinear => fm_linear(a, s, scale, increment, carry),
-        ModulatedFact::PhaseDistortion => Offset {
+    match modes::modulated(mode) {
+        Ok(Some(Modulated::Fm(kind))) => fm_offset(kind, a, s, scale, increment, carry),
+        Ok(Some(Modulated::PhaseDistortion)) => Offset {
             word: to_word(a * PD_MAX_CYCLES * s),
             carry,
         },
@@ -151,51 +125,69 @@ pub fn offset_of(
     }
 }
 
-// Without a source the slot reads nothing.
-fn move_on(
-    powers: &[u32; 257],
-    mode: u32,
-    control: Control,
-    scale: f32,
-    increment: f32,
-    list: ReadList,
-    carry: f32,
-) -> Moved
-    requires fact_1 { powers.now ≡ entries }
-    requires fact_2 { list.count ≤ 4 }
-    ensures { result ≡ moved_of mode control scale increment list carry }
-{
-    if is_modulated(mode) & control.sourced {
-        let offset = offset_of(powers, mode, control, scale, increment, carry);
-        return Moved {
-            list: reads::shift(list, offset.word),
-            carry: offset.carry,
-        };
+impl Driven {
+    // Its offset: none without a source.
+    #[tactic(auto, unfolding(crate::specs::PhaseRun::offset_if), using(floats::specs::Steps::steps))]
+    pub(crate) fn offset(self, scale: f32, increment: f32, carry: f32) -> Option<Offset>
+        ensures { result ≡ offset_if self.slot.mode self.control scale increment carry }
+    {
+        let mode = self.slot.mode;
+        let Control { amount, source } = self.control;
+        match source {
+            Some(heard) if is_modulated(mode) => {
+                Some(offset_of(mode, amount, heard, scale, increment, carry))
+            }
+            _ => None,
+        }
     }
-    Moved { list, carry }
+
+    // Its map, with crossfades `half` cycles either side, if it is in the phase stage.
+    #[tactic(auto, unfolding(phase::specs::Setting::setting_if), using(crate::proofs::Powers::phase_power, floats::specs::Steps::steps))]
+    pub(crate) fn map(self, half: f32) -> Option<MapSetting>
+        ensures { result ≡ setting_if (in_phase self.slot.mode) self.slot self.control.amount half }
+    {
+        if in_phase(self.slot.mode) {
+            return Some(MapSetting {
+                slot: self.slot,
+                amount: self.control.amount,
+                power: self.power,
+                half,
+            });
+        }
+        None
+    }
 }
 
-fn map_slot(
-    numbers: Numbers,
-    curve: &[f32],
-    slot: Slot,
-    control: Control,
-    power: f32,
-    half: f32,
-    list: ReadList,
-) -> ReadList
-    requires fact_1 { power ≡ power_of slot.mode control.amount }
-    requires fact_2 { 1024 < length curve.now }
-    requires fact_3 { list.count ≤ 4 }
-    ensures { result ≡ map_slot numbers.sin numbers.atan curve.now slot control half list }
+#[tactic(auto, unfolding(crate::specs::PhaseRun::moved_of))]
+fn move_on(driven: Driven, scale: f32, increment: f32, list: ReadList, carry: f32) -> Moved
+    requires { list.count ≤ 4 }
+    ensures few { result.list.count ≤ 4 }
+    ensures value { result ≡ moved_of driven.slot.mode driven.control scale increment list carry }
 {
-    if in_phase(slot.mode) {
-        return phase::apply_with(numbers, curve, slot, control.amount, power, half, list);
+    match driven.offset(scale, increment, carry) {
+        Some(offset) => Moved {
+            list: list.shift(offset.word),
+            carry: offset.carry,
+        },
+        None => Moved { list, carry },
     }
-    list
+}
+
+#[tactic(auto, unfolding(crate::specs::PhaseRun::map_slot, phase::specs::Setting::setting_if, phase::specs::Setting::setting_of), using(floats::specs::Steps::steps))]
+fn map_slot(tables: Tables<'_>, driven: Driven, half: f32, list: ReadList) -> ReadList
+    requires { list.count ≤ 4 }
+    ensures few { result.count ≤ 4 }
+    ensures value { result ≡ map_slot tables.entry.numbers.sin tables.entry.numbers.atan tables.entry.curve.values.now
+        driven.slot driven.control half list }
+{
+    match driven.map(half) {
+        Some(setting) => phase::apply(tables, setting, list),
+        None => list,
+    }
 }
 
 // Half the width of an edge. TRANSITION is in host samples; the increment is for a rendered one.
+#[tactic(auto, unfolding(crate::specs::PhaseRun::half_width))]
 pub fn half_width(increment: f32, factor: u32) -> f32
     ensures { result ≡ half_width increment factor }
 {
@@ -203,47 +195,30 @@ pub fn half_width(increment: f32, factor: u32) -> f32
 }
 
 // Slot 1's map, then slot 0's with half width times `inner`, then the offsets in the same order.
+#[tactic(auto, unfolding(crate::specs::PhaseRun::list_of, reads::specs::Reads::start_of, reads::specs::Reads::outgoing_of), using(floats::specs::Steps::steps))]
 fn list_of(
-    powers: &[u32; 257],
-    numbers: Numbers,
-    curve: &[f32],
-    slot0: Slot,
-    slot1: Slot,
+    tables: Tables<'_>,
+    slot0: Driven,
+    slot1: Driven,
     factor: u32,
     scale: f32,
-    control0: Control,
-    control1: Control,
-    power0: f32,
-    power1: f32,
     inner: f32,
     word: u32,
     increment: f32,
     fm0: f32,
     fm1: f32,
 ) -> Reads
-    requires powers_value_1 { powers.now ≡ entries }
-    requires powers_value_2 { 1024 < length curve.now }
-    requires power0_value_1 { power0 ≡ power_of slot0.mode control0.amount }
-    requires power0_value_2 { power1 ≡ power_of slot1.mode control1.amount }
-    ensures value { result ≡ list_of numbers.sin numbers.atan curve.now slot0 slot1 factor scale control0 control1 inner word increment fm0 fm1 }
+    ensures value { result ≡ list_of tables.entry.numbers.sin tables.entry.numbers.atan tables.entry.curve.values.now
+        slot0.slot slot1.slot factor scale slot0.control slot1.control inner word increment fm0 fm1 }
     ensures count_bound { result.reads.count ≤ 4 }
 {
     let half = half_width(increment, factor);
-    let start = ReadList::start(word);
-    let list1 = map_slot(numbers, curve, slot1, control1, power1, half, start);
-    let list0 = map_slot(numbers, curve, slot0, control0, power0, half * inner, list1);
-    let moved1 = move_on(powers, slot1.mode, control1, scale, increment, list0, fm1);
-    let moved0 = move_on(
-        powers,
-        slot0.mode,
-        control0,
-        scale,
-        increment,
-        moved1.list,
-        fm0,
-    );
+    let list1 = map_slot(tables, slot1, half, ReadList::start(word));
+    let list0 = map_slot(tables, slot0, half * inner, list1);
+    let moved1 = move_on(slot1, scale, increment, list0, fm1);
+    let moved0 = move_on(slot0, scale, increment, moved1.list, fm0);
     Reads {
-        reads: reads::outgoing(moved0.list),
+        reads: LaneReads::from(moved0.list),
         fm0: moved0.carry,
         fm1: moved1.carry,
     }
@@ -251,10 +226,9 @@ fn list_of(
 
 // The read list of a lane at one rendered frame: `power0` and `power1` are the slots' powers, `inner` is
 // slot 1's steepest slope as prepared, `fm0` and `fm1` the FM carry of slots 0 and 1.
+#[tactic(auto, unfolding(crate::specs::PhaseRun::reads_of, reads::specs::Reads::one_read), using(floats::specs::Steps::steps))]
 pub fn reads_of(
-    powers: &[u32; 257],
-    numbers: Numbers,
-    curve: &[f32],
+    tables: Tables<'_>,
     slot0: Slot,
     slot1: Slot,
     factor: u32,
@@ -269,18 +243,26 @@ pub fn reads_of(
     fm0: f32,
     fm1: f32,
 ) -> Reads
-    requires powers_value_1 { powers.now ≡ entries }
-    requires powers_value_2 { 1024 < length curve.now }
-    requires power0_value_1 { power0 ≡ power_of slot0.mode control0.amount }
-    requires power0_value_2 { power1 ≡ power_of slot1.mode control1.amount }
-    ensures value { result ≡ reads_of numbers.sin numbers.atan curve.now slot0 slot1 factor scale control0 control1 inner word step fm0 fm1 }
+    requires powered0 { power0 ≡ power_of slot0.mode control0.amount }
+    requires powered1 { power1 ≡ power_of slot1.mode control1.amount }
+    ensures value { result ≡ reads_of tables.entry.numbers.sin tables.entry.numbers.atan tables.entry.curve.values.now
+        slot0 slot1 factor scale control0 control1 inner word step fm0 fm1 }
     ensures count_bound { result.reads.count ≤ 4 }
 {
     if in_phase(slot0.mode) | in_phase(slot1.mode) {
+        let driven0 = Driven {
+            slot: slot0,
+            control: control0,
+            power: power0,
+        };
+        let driven1 = Driven {
+            slot: slot1,
+            control: control1,
+            power: power1,
+        };
         let increment = signed(step);
         return list_of(
-            powers, numbers, curve, slot0, slot1, factor, scale, control0, control1, power0,
-            power1, inner, word, increment, fm0, fm1,
+            tables, driven0, driven1, factor, scale, inner, word, increment, fm0, fm1,
         );
     }
     Reads {

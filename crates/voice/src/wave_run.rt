@@ -1,15 +1,14 @@
 // The wave stage: a lane's sample shaped, with the filter pairs of its two slots and `last`.
 ghost use Rattle.std.specs.Prelude.{◌≡◌, false};
-ghost use Rattle.floats.specs.Exp2.{entries};
-ghost use Rattle.wave.specs.Slot.{wave_power};
+ghost use Rattle.floats.specs.Steps.{when◌then◌else◌};
 ghost use Rattle.voice.specs.Power.{power_of};
 ghost use Rattle.voice.specs.WaveRun.{tracks, slot_of, has_state, Passes, ShapedBy, shaped_of};
 
-use crate::control::Control;
+use crate::control::{Control, Driven};
 use crate::phase_run::is_own;
 use lanes::{Numbers, signed};
 use phase::Slot;
-use wave::{Filtered, Setting, Svf, in_wave, is_level, level};
+use wave::{Filtered, Svf, in_wave, is_level, level, level_setting};
 
 // The sample that goes out, and the state after it.
 #[derive(Clone, Copy)]
@@ -21,103 +20,60 @@ pub struct Shaped {
 }
 
 // Whether the raw sample is kept: only if a slot reads it and a slot is in the wave stage.
+#[tactic(auto, unfolding(crate::specs::WaveRun::tracks))]
 pub fn tracks(mode0: u32, mode1: u32) -> bool
     ensures { result ≡ tracks mode0 mode1 }
 {
     (in_wave(mode0) | in_wave(mode1)) & (is_own(mode0) | is_own(mode1))
 }
 
-fn slot_of(
-    powers: &[u32; 257],
-    numbers: Numbers,
-    slot: Slot,
-    control: Control,
-    power: f32,
-    increment: f32,
-    x: f32,
-    state: Svf,
-) -> Filtered
-    requires fact_1 { powers.now ≡ entries }
-    requires fact_2 { power ≡ wave_power slot.mode control.amount }
-    ensures { result ≡ slot_of numbers.sin slot control increment x state }
+// `last` after the raw sample `x`.
+#[tactic(auto, using(floats::specs::Steps::steps))]
+fn kept(mode0: u32, mode1: u32, x: f32, last: f32) -> f32
+    ensures { result ≡ (when tracks mode0 mode1 then x else last) }
 {
-    let setting = wave::setting_with(
-        slot.mode,
-        control.amount,
-        power,
-        slot.character,
-        control.sourced,
-        control.source,
-    );
-    wave::shape(powers, numbers, slot.mode, setting, increment, x, state)
+    if tracks(mode0, mode1) { x } else { last }
 }
 
-// The same, for a slot in either stage: one that is not in the wave stage leaves sample and state, and
-// no setting is made for it.
-fn slot_at(
-    powers: &[u32; 257],
-    numbers: Numbers,
-    slot: Slot,
-    control: Control,
-    power: f32,
-    increment: f32,
-    x: f32,
-    state: Svf,
-) -> Filtered
-    requires fact_1 { powers.now ≡ entries }
-    requires fact_2 { power ≡ power_of slot.mode control.amount }
-    ensures { result ≡ slot_of numbers.sin slot control increment x state }
+// A slot that is not in the wave stage has no setting, and leaves sample and state.
+#[tactic(auto, unfolding(crate::specs::WaveRun::slot_of), using(crate::proofs::Powers::wave_power_lem, floats::specs::Steps::steps))]
+fn slot_of(numbers: Numbers, driven: Driven, increment: f32, x: f32, state: Svf) -> Filtered
+    ensures { result ≡ slot_of numbers.sin driven.slot driven.control increment x state }
 {
-    if in_wave(slot.mode) {
-        return slot_of(powers, numbers, slot, control, power, increment, x, state);
-    }
-    Filtered { y: x, state: state }
+    let Slot { mode, character } = driven.slot;
+    let Control { amount, source } = driven.control;
+    let setting = wave::setting_with(mode, amount, driven.power, character, source);
+    wave::shape(numbers, mode, setting, increment, x, state)
 }
 
 // `shape_of` where a slot has a state.
+#[tactic(auto, unfolding(crate::specs::WaveRun::shaped_of), using(floats::specs::Steps::steps))]
 fn shape_stated(
-    powers: &[u32; 257],
     numbers: Numbers,
-    slot0: Slot,
-    slot1: Slot,
-    control0: Control,
-    control1: Control,
-    power0: f32,
-    power1: f32,
+    slot0: Driven,
+    slot1: Driven,
     step: u32,
     x: f32,
     pairs0: Svf,
     pairs1: Svf,
     last: f32,
 ) -> Shaped
-    requires fact_1 { powers.now ≡ entries }
-    requires fact_2 { power0 ≡ power_of slot0.mode control0.amount }
-    requires fact_3 { power1 ≡ power_of slot1.mode control1.amount }
-    ensures { result ≡ shaped_of numbers.sin slot0 slot1 control0 control1 step x pairs0 pairs1 last }
+    ensures { result ≡ shaped_of numbers.sin slot0.slot slot1.slot slot0.control slot1.control step x pairs0 pairs1 last }
 {
     let increment = signed(step);
-    let kept = if tracks(slot0.mode, slot1.mode) {
-        x
-    } else {
-        last
-    };
-    let first = slot_at(
-        powers, numbers, slot0, control0, power0, increment, x, pairs0,
-    );
-    let second = slot_at(
-        powers, numbers, slot1, control1, power1, increment, first.y, pairs1,
-    );
-    let state0 = first.state;
-    let state1 = second.state;
+    let kept = kept(slot0.slot.mode, slot1.slot.mode, x, last);
+    let first = slot_of(numbers, slot0, increment, x, pairs0);
+    let second = slot_of(numbers, slot1, increment, first.y, pairs1);
     Shaped {
         y: second.y,
-        pairs0: state0,
-        pairs1: state1,
+        pairs0: first.state,
+        pairs1: second.state,
         last: kept,
     }
 }
 
 // Whether a slot shapes with a state: a filter or a distortion.
+#[tactic(auto, unfolding(crate::specs::WaveRun::has_state))]
 pub fn has_state(mode: u32) -> bool
     ensures { result ≡ has_state mode }
 {
@@ -129,11 +85,11 @@ fn level_of(slot: Slot, control: Control, x: f32) -> f32
     requires { has_state slot.mode ≡ false }
     ensures { Passes result slot control x }
 {
-    let mode = slot.mode;
-    if in_wave(mode) & control.sourced {
-        return level(mode, Setting::Level(control.amount, control.source), x);
+    if !in_wave(slot.mode) {
+        return x;
     }
-    x
+    let setting = level_setting(control.amount, control.source);
+    level(slot.mode, setting, x)
 }
 
 // `shape_of` where no slot has a state: no number of the sine is asked for, and the step is not looked at.
@@ -147,29 +103,21 @@ pub fn shape_level(
     pairs1: Svf,
     last: f32,
 ) -> Shaped
-    requires fact_1 { has_state slot0.mode ≡ false }
-    requires fact_2 { has_state slot1.mode ≡ false }
+    requires stateless0 { has_state slot0.mode ≡ false }
+    requires stateless1 { has_state slot1.mode ≡ false }
     ensures { ShapedBy result slot0 slot1 control0 control1 x pairs0 pairs1 last }
 {
-    let kept = if tracks(slot0.mode, slot1.mode) {
-        x
-    } else {
-        last
-    };
-    let first = level_of(slot0, control0, x);
-    let second = level_of(slot1, control1, first);
     Shaped {
-        y: second,
-        pairs0: pairs0,
-        pairs1: pairs1,
-        last: kept,
+        y: level_of(slot1, control1, level_of(slot0, control0, x)),
+        pairs0,
+        pairs1,
+        last: kept(slot0.mode, slot1.mode, x, last),
     }
 }
 
 // The sample `x` of a lane at one rendered frame, shaped by slot 0 and then slot 1, whose powers are
 // `power0` and `power1`.
 pub fn shape_of(
-    powers: &[u32; 257],
     numbers: Numbers,
     slot0: Slot,
     slot1: Slot,
@@ -183,16 +131,22 @@ pub fn shape_of(
     pairs1: Svf,
     last: f32,
 ) -> Shaped
-    requires fact_1 { powers.now ≡ entries }
-    requires fact_2 { power0 ≡ power_of slot0.mode control0.amount }
-    requires fact_3 { power1 ≡ power_of slot1.mode control1.amount }
+    requires powered0 { power0 ≡ power_of slot0.mode control0.amount }
+    requires powered1 { power1 ≡ power_of slot1.mode control1.amount }
     ensures { result ≡ shaped_of numbers.sin slot0 slot1 control0 control1 step x pairs0 pairs1 last }
 {
     if has_state(slot0.mode) | has_state(slot1.mode) {
-        return shape_stated(
-            powers, numbers, slot0, slot1, control0, control1, power0, power1, step, x, pairs0,
-            pairs1, last,
-        );
+        let driven0 = Driven {
+            slot: slot0,
+            control: control0,
+            power: power0,
+        };
+        let driven1 = Driven {
+            slot: slot1,
+            control: control1,
+            power: power1,
+        };
+        return shape_stated(numbers, driven0, driven1, step, x, pairs0, pairs1, last);
     }
     shape_level(slot0, slot1, control0, control1, x, pairs0, pairs1, last)
 }

@@ -15,6 +15,7 @@ use lib.Ieee.Exact.{round_exact}
 use Rattle.floats.specs.F32.{◌⊗◌, 1f}
 use Rattle.floats.specs.Steps.{◌>>=◌}
 use Rattle.floats.proofs.Exact.{value_fixes, mul_value}
+use Rattle.std.specs.Prelude.{Some}
 use Rattle.modes.specs.Choice.{case_of}
 use Rattle.wave.specs.declared.filters.Svf.{Svf}
 use Rattle.wave.specs.Smooth.{drive_of, gain_of, driven_of, smooth_of, distort_smooth}
@@ -75,6 +76,6 @@ driven mode a x F = go (eqb mode 28)
     go true = times_one x F
     go false = refl
 
-pub curve_smooth : (sk : List Float) (mode : ℕ) (a increment x : Float) (state : Svf) → T (fits binary32 x) → shape_of sk mode (curve_setting mode a) increment x state ≡ distort_smooth sk mode a x state
+pub curve_smooth : (sk : List Float) (mode : ℕ) (a increment x : Float) (state : Svf) → T (fits binary32 x) → shape_of sk mode (Some (curve_setting mode a)) increment x state ≡ distort_smooth sk mode a x state
 unfolding curve_setting shape_of distort_smooth ◌>>=◌
 curve_smooth sk mode a increment x state F = ap (λ (d : Float). smooth_of sk mode a d x state) (driven mode a x F)

@@ -1,4 +1,2 @@
-pub mod Settings
 pub mod Drives
-pub mod Powers
 pub mod Distorting

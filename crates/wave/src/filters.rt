@@ -1,7 +1,6 @@
 // The filters: a state-variable filter (Simper's trapezoidal SVF) for each lane, 12 dB an octave, whose
 // cutoff is a harmonic of the note.
 ghost use Rattle.std.specs.Prelude.{◌≡◌};
-ghost use Rattle.floats.specs.Exp2.{entries};
 ghost use Rattle.wave.specs.Filter.{cutoff_harmonic, damping_of, tangent_of, filter_with, filter_of};
 
 use floats::exp2;
@@ -31,17 +30,18 @@ pub struct Filtered {
 
 // A filter mode's cutoff, as a harmonic of the note, at amount `a`: low-pass from harmonic 2,048 at 0 %
 // down to the fundamental at 100 %; high-pass from a quarter of the fundamental up to harmonic 1,024.
-pub fn cutoff_harmonic(powers: &[u32; 257], mode: u32, a: f32) -> f32
-    requires { powers.now ≡ entries }
+#[tactic(auto, unfolding(crate::specs::Filter::cutoff_harmonic, modes::specs::Choice::case_of))]
+pub fn cutoff_harmonic(mode: u32, a: f32) -> f32
     ensures { result ≡ cutoff_harmonic mode a }
 {
     match mode {
-        LOW_PASS => exp2(powers, (1.0 - a) * 11.0),
-        _ => exp2(powers, a * 12.0 + -2.0),
+        LOW_PASS => exp2((1.0 - a) * 11.0),
+        _ => exp2(a * 12.0 + -2.0),
     }
 }
 
 // The filters' damping (1 / Q): Butterworth (√2) at character 0, falling to 0.21 (a 13 dB peak) at 1.
+#[tactic(auto, unfolding(crate::specs::Filter::damping_of), using(floats::specs::Steps::steps))]
 pub fn damping(character: f32) -> f32
     ensures { result ≡ damping_of character }
 {
@@ -50,6 +50,8 @@ pub fn damping(character: f32) -> f32
 
 // The tangent of a filter's cutoff, which is `harmonic` of a note whose phase moves `increment` cycles a
 // sample. It goes by no sample, so that a filter that stays works it out once.
+#[tactic(auto, unfolding(crate::specs::Filter::tangent_of), using(floats::specs::Steps::steps))]
+#[inline(always)]
 pub fn tangent(numbers: Numbers, harmonic: f32, increment: f32) -> f32
     ensures { result ≡ tangent_of numbers.sin harmonic increment }
 {
@@ -72,16 +74,15 @@ pub fn filter_with(mode: u32, g: f32, k: f32, x: f32, state: Svf) -> Filtered
         ic1: 2.0 * v1 - state.ic1,
         ic2: 2.0 * v2 - state.ic2,
     };
-    match mode {
-        LOW_PASS => Filtered { y: v2, state: next },
-        _ => Filtered {
-            y: x - k * v1 - v2,
-            state: next,
-        },
-    }
+    let y = match mode {
+        LOW_PASS => v2,
+        _ => x - k * v1 - v2,
+    };
+    Filtered { state: next, y }
 }
 
 // The same, with the tangent worked out.
+#[tactic(auto, unfolding(crate::specs::Filter::filter_of), using(floats::specs::Steps::steps))]
 pub fn filter(
     numbers: Numbers,
     mode: u32,

@@ -9,10 +9,10 @@ pub mod slots;
 pub mod smoothing;
 
 pub use curves::{curve, curve_all};
-pub use filters::{Filtered, Svf, cutoff_harmonic, damping, filter, filter_with};
+pub use filters::{Filtered, Svf, cutoff_harmonic, damping, filter, filter_with, tangent};
 pub use integrals::integral;
 pub use slots::{
-    Setting, in_wave, is_filter, is_level, is_modulated, level, setting_of, setting_with, shape,
-    wave_power,
+    Setting, in_wave, is_filter, is_level, is_modulated, level, level_setting, setting_of,
+    setting_with, shape, wave_power,
 };
 pub use smoothing::{blend_rectified, distort, distort_smooth, drive};

@@ -1,13 +1,9 @@
 -- `curve::steepest` meets its contract.
-use native.Mathlib.Omega.{arith}
 use Rattle.curve.proofs.Answers.{refuses, accepts}
 use Rattle.curve.proofs.steepest.Goals as goal
 
-pub returns-then-curve-lt-CURVE_LENGTH : goal.returns-then-curve-lt-CURVE_LENGTH
-returns-then-curve-lt-CURVE_LENGTH c = refuses _ _ (omega arith)
-
-pub steepest_of-requires : goal.steepest_of-requires
-steepest_of-requires c = omega arith
+pub returns-in_err-new : goal.returns-in_err-new
+returns-in_err-new c = refuses _ _ _ _ c.in_err-new.ensures.err c.from_residual.ensures.1
 
 pub returns : goal.returns
-returns c = accepts _ (omega arith) c.steepest_of.ensures
+returns c = let ok = c.in_ok-new.ensures.ok in accepts _ _ _ (rw ok.0 at c.steepest.ensures) ok.1

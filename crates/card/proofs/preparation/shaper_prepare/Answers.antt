@@ -12,4 +12,4 @@ pub shape_of-add : goal.shape_of-add
 shape_of-add c = c.prepare.ensures.add
 
 pub returns : goal.returns
-returns c = c.prepare.ensures
+returns c = rw c.from.ensures c.prepare.ensures

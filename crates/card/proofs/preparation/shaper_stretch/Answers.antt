@@ -3,4 +3,4 @@
 use Rattle.card.proofs.preparation.shaper_stretch.Goals as goal
 
 pub returns : goal.returns
-returns c = c.stretch.ensures
+returns c = rw c.from.ensures c.stretch.ensures

@@ -22,19 +22,13 @@ under c = bits_lt c.args.x c.well_formed.0.1
 pub overflow_sub-c : goal.overflow_sub-c
 overflow_sub-c c = omega (arith, under c)
 
-pub overflow_mul-c : goal.overflow_mul-c
-overflow_mul-c c = let b = bits_of c.args.x in omega (arith, mul-le-mul_left b (one b), mul-one b, under c)
-  where
-    one : (b : ℕ) → 1 - b / 2147483648 ≤ 1
-    one b = omega arith
-
 pub returns-then-c-lt1602224128 : goal.returns-then-c-lt1602224128
 returns-then-c-lt1602224128 c =
     let e = (goal.at.returns-then-c-lt1602224128 c).Else-x in
     let s = (goal.at.returns-then-c-lt1602224128 c).Start in
     let b = bits_of s.args.x in
     c.whole_part-size.ensures
-    ∙ ap whole_of c.least.ensures
+    ∙ ap whole_of c.min.ensures
     ∙ subst (λ (x : Float). whole_of (min (b * (1 - b / 2147483648)) 1602224127) ≡ to_unsigned 64 x) (read s.args.x s.well_formed.0.1)
     (unsigned_small b (under e) (read_no_nan s.args.x s.well_formed.0.1 e.if-x.false) c.if-c-lt1602224128.true)
 

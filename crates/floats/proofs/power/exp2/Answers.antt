@@ -61,15 +61,12 @@ pub float_to_bits-x : goal.float_to_bits-x
 float_to_bits-x c = no_nan_T c.args.x c.if-x.false
 
 pub steps-requires : goal.steps-requires
-steps-requires c = (mid c.args.x c.well_formed.1.0.1 c.if-x.false c.if-x-2.false c.if-x-3.false).most
+steps-requires c = (mid c.args.x c.well_formed.0.1 c.if-x.false c.if-x-2.false c.if-x-3.false).most
 
 pub power_bits-requires : goal.power_bits-requires
 power_bits-requires c =
-    let m = mid c.args.x c.well_formed.1.0.1 c.if-x.false c.if-x-2.false c.if-x-3.false in
-    record {
-      fact_1 = c.requires;
-      fact_2 = omega (arith, m.low, m.high, c.steps.ensures);
-    }
+    let m = mid c.args.x c.well_formed.0.1 c.if-x.false c.if-x-2.false c.if-x-3.false in
+    omega (arith, m.low, m.high, c.steps.ensures)
 
 pub float_from_bits-result : goal.float_from_bits-result
 float_from_bits-result c = subst (λ (t : Bool). T (not t)) (sym (bits_no_nan c.power_bits.result c.power_bits.ensures.0)) tt
@@ -77,7 +74,7 @@ float_from_bits-result c = subst (λ (t : Bool). T (not t)) (sym (bits_no_nan c.
 pub returns : goal.returns
 returns c =
     let x = c.args.x in
-    let m = mid x c.well_formed.1.0.1 c.if-x.false c.if-x-2.false c.if-x-3.false in
+    let m = mid x c.well_formed.0.1 c.if-x.false c.if-x-2.false c.if-x-3.false in
     c.power_bits.ensures.1
-    ∙ ap pow_at (c.steps.ensures ∙ sym m.is ∙ ap scaled (read x c.well_formed.1.0.1))
+    ∙ ap pow_at (c.steps.ensures ∙ sym m.is ∙ ap scaled (read x c.well_formed.0.1))
     ∙ sym (of_middle x (no_nan x c.if-x.false) (large x false c.if-x-2.false) (low x false c.if-x-3.false))

@@ -63,10 +63,5 @@ moved-requires c = ((here c).fits, (here c).room)
 total : (b m s n : ℕ) → Facts b m s → n ≡ cond (leb 2147483648 b) ((8388608 * 2 ^ s) % 2 ^ 64 - m) ((8388608 * 2 ^ s) % 2 ^ 64 + m) → n / 2 ^ s ≡ steps_of b
 total b m s n f e = ap (λ (n : ℕ). n / 2 ^ s) e ∙ f.is
 
-pub overflow_cast-result-2 : goal.overflow_cast-result-2
-overflow_cast-result-2 c =
-    let f = here (goal.at.overflow_cast-result-2 c).After-drop_of-s in
-    record { fits = subst (λ (n : ℕ). n < 2 ^ 32) (sym (total c.args.b c.significand-m.result c.drop_of-s.result c.moved.result f c.moved.ensures)) f.small }
-
 pub returns : goal.returns
 returns c = total c.args.b c.significand-m.result c.drop_of-s.result c.moved.result (here (goal.at.returns c).After-drop_of-s) c.moved.ensures

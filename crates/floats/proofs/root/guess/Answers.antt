@@ -6,6 +6,3 @@ use Rattle.floats.proofs.root.guess.Goals as goal
 
 pub float_from_bits-f : goal.float_from_bits-f
 float_from_bits-f c = rw (wide_no_nan (c.args.fraction * 536870912 + 4607182418800017408) (omega arith)) tt
-
-pub float_to_bits-result : goal.float_to_bits-result
-float_to_bits-result c = rw c.in_range.ensures tt

@@ -9,8 +9,5 @@ least : is_nan (of_bits binary64 4841369599431671808) ≡ false
 unfolding is_nan of_bits
 least = refl
 
-pub returns-then-s : goal.returns-then-s
-returns-then-s c = above_no_nan _ _ c.if-s.true
-
 pub returns-else-s : goal.returns-else-s
 returns-else-s c = least

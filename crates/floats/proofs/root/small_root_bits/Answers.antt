@@ -66,19 +66,10 @@ module _ (b : ℕ) (P : 0 < b) (S : b < 2 ^ 23) where
 pub overflow_sub-up : goal.overflow_sub-up
 overflow_sub-up c = (zeros c.args.b c.requires.0 c.requires.1).0
 
-pub overflow_shl-b : goal.overflow_shl-b
-overflow_shl-b c = omega (arith, zeros c.args.b c.requires.0 c.requires.1)
-
-pub overflow_sub-up-2 : goal.overflow_sub-up-2
-overflow_sub-up-2 c = omega (arith, zeros c.args.b c.requires.0 c.requires.1)
-
 pub root_bits-requires : goal.root_bits-requires
 root_bits-requires c =
     let b = c.args.b in
     rw (whole b c.requires.0 c.requires.1) (omega (arith, low b c.requires.0 c.requires.1, high b c.requires.0 c.requires.1))
-
-pub overflow_sub-result : goal.overflow_sub-result
-overflow_sub-result c = omega (arith, c.root_bits.ensures.least)
 
 pub returns : goal.returns
 returns c = let s = (goal.at.returns c).Start in root s.args.b s.requires.0 s.requires.1 c.root_bits.result c.root_bits.ensures

@@ -5,5 +5,5 @@ use Rattle.halfband.proofs.stage.stage.Goals as goal
 
 pub returns : goal.returns
 returns c =
-    staged (sections_of c.args.design) _ _ _ _ _ _ _ _ _ _ c.requires.1.lane c.load-cells.ensures
-    c.run_known.ensures c.store.ensures
+    staged (sections_of c.args.design.now) _ _ _ _ _ _ _ _ _ _ c.args.lane.inside c.load-cells.ensures
+    c.run_counted.ensures c.store.ensures

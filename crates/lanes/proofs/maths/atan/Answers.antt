@@ -1,21 +1,15 @@
 -- `lanes::atan` meets its contract.
-use Rattle.std.proofs.Common.{rules}
+use mathlib.Core.Path.{◌≡◌}
+use borrow.Author.Rules.{rules}
+use lib.ListN.{length}
 use Rattle.floats.specs.Steps.{steps}
 use Rattle.lanes.specs.Maths.{atan_of}
+use Rattle.lanes.proofs.Polynomials.{from}
 use Rattle.lanes.proofs.maths.atan.Goals as goal
-
-pub half-requires : goal.half-requires
-unfolding atan_of
-half-requires c = search rules
-
-pub half-x-requires : goal.half-x-requires
-unfolding atan_of
-half-x-requires c = search rules
-
-pub atan_polynomial-p-requires : goal.atan_polynomial-p-requires
-unfolding atan_of
-atan_polynomial-p-requires c = search rules
 
 pub returns : goal.returns
 unfolding atan_of
-returns c = search steps depth 12
+returns c =
+    let n : length c.args.numbers.atan ≡ 8 = search rules in
+    let p = from _ _ 7 n c.polynomial-p.ensures in
+    search steps depth 12

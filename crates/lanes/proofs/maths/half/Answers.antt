@@ -4,10 +4,6 @@ use Rattle.floats.specs.Steps.{steps}
 use Rattle.lanes.specs.Maths.{half_of}
 use Rattle.lanes.proofs.maths.half.Goals as goal
 
-pub sqrt-requires : goal.sqrt-requires
-unfolding half_of
-sqrt-requires c = search rules
-
 pub returns : goal.returns
 unfolding half_of
 returns c = search steps depth 12

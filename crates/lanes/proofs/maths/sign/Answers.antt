@@ -4,10 +4,6 @@ use Rattle.floats.specs.Steps.{steps}
 use Rattle.lanes.specs.Maths.{sign_of}
 use Rattle.lanes.proofs.maths.sign.Goals as goal
 
-pub sign_bit-requires : goal.sign_bit-requires
-unfolding sign_of
-sign_bit-requires c = search rules
-
 pub returns : goal.returns
 unfolding sign_of
 returns c = search steps depth 12

@@ -4,10 +4,6 @@ use Rattle.floats.specs.Steps.{steps}
 use Rattle.lanes.specs.Maths.{smoothstep_of}
 use Rattle.lanes.proofs.maths.smoothstep.Goals as goal
 
-pub clamp-t-requires : goal.clamp-t-requires
-unfolding smoothstep_of
-clamp-t-requires c = search rules
-
 pub returns : goal.returns
 unfolding smoothstep_of
 returns c = search steps depth 12

@@ -15,18 +15,6 @@ returns c =
     let i = (goal.at.returns c).After-cast_usize-i in
     search (steps, c.clamp-at.ensures, c.floor.ensures, c.min-whole.ensures, i.cast_usize-i.ensures) depth 12
 
-pub clamp-at-requires : goal.clamp-at-requires
-clamp-at-requires c = tt
-
-pub floor-requires : goal.floor-requires
-floor-requires c = tt
-
-pub min-whole-requires : goal.min-whole-requires
-min-whole-requires c = tt
-
-pub cast_usize-i-requires : goal.cast_usize-i-requires
-cast_usize-i-requires c = tt
-
 pub overflow_add-result : goal.overflow_add-result
 overflow_add-result c = omega (arith, below c)
 

@@ -4,14 +4,6 @@ use Rattle.floats.specs.Steps.{steps}
 use Rattle.lanes.specs.Word.{to_word}
 use Rattle.lanes.proofs.word.to_word.Goals as goal
 
-pub floor-requires : goal.floor-requires
-unfolding to_word
-floor-requires c = search rules
-
-pub cast_word-requires : goal.cast_word-requires
-unfolding to_word
-cast_word-requires c = search rules
-
 pub returns-then-scaled : goal.returns-then-scaled
 unfolding to_word
 returns-then-scaled c = search steps depth 12

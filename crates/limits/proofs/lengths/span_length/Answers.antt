@@ -1,15 +1,13 @@
--- `lengths::span_length` meets its contract: the product fits.
+-- `lengths::span_length` meets its contract: the product of two numbers below 2^32 fits.
 use Prim.Native.Nat.{◌*◌, ◌≤◌}
+use native.Mathlib.Nat.{mul-le-mul}
 use native.Mathlib.Omega.{arith}
-use Rattle.limits.proofs.LengthLaws.{span_most}
+use Rattle.limits.specs.Lengths.{spans_of}
 use Rattle.limits.proofs.lengths.span_length.Goals as goal
-use Rattle.limits.proofs.lengths.span_length.Goals.{After-spans_of}
-
-most : (c : After-spans_of) → c.spans_of.result * c.args.lanes ≤ 8192
-most c = rw c.spans_of.ensures (span_most _ _ c.requires.0 c.requires.1)
-
-pub returns : goal.returns
-returns c = rw c.spans_of.ensures
 
 pub overflow_mul-result : goal.overflow_mul-result
-overflow_mul-result c = omega (arith, most c)
+unfolding spans_of
+overflow_mul-result c =
+    let spans : c.spans_of.result ≤ 4294967295 = omega (arith, c.spans_of.ensures) in
+    let lanes : c.args.lanes ≤ 4294967295 = omega arith in
+    omega (arith, mul-le-mul spans lanes)

@@ -1,27 +1,21 @@
 -- `modes::distortion` meets its contract.
-use Rattle.std.specs.Prelude.{◌≤◌}
+use Rattle.std.specs.Prelude.{◌≤◌, Ok}
 use native.Mathlib.Omega.{arith}
 use mathlib.Core.Path.{refl}
 use mathlib.Core.Bool.{true, false}
-use Rattle.modes.specs.Facts.{given}
 use Rattle.modes.specs.Table.{Row, distortion_of}
-use Rattle.modes.specs.Says.{flag_says}
 use Rattle.modes.proofs.Ranges.{range}
 use Rattle.modes.proofs.Laws.{beyond}
 use Rattle.modes.proofs.shaping.distortion.Goals as goal
 
 pub returns-in-19-to-32 : goal.returns-in-19-to-32
-unfolding flag_says
-returns-in-19-to-32 c = range distortion_of (given true) 19 33 (unfold distortion_of in refl) (omega arith) (omega arith)
+returns-in-19-to-32 c = range distortion_of (Ok true) 19 33 (unfold distortion_of in refl) (omega arith) (omega arith)
 
 pub returns-in_default : goal.returns-in_default
-unfolding flag_says
 returns-in_default c = let h : 70 ≤ c.args.mode = omega arith in unfold distortion_of in beyond (λ (r : Row). r.distortion) h
 
 pub returns-in-0-to-18 : goal.returns-in-0-to-18
-unfolding flag_says
-returns-in-0-to-18 c = range distortion_of (given false) 0 19 (unfold distortion_of in refl) (omega arith) (omega arith)
+returns-in-0-to-18 c = range distortion_of (Ok false) 0 19 (unfold distortion_of in refl) (omega arith) (omega arith)
 
 pub returns-in-0-to-18-2 : goal.returns-in-0-to-18-2
-unfolding flag_says
-returns-in-0-to-18-2 c = range distortion_of (given false) 33 70 (unfold distortion_of in refl) (omega arith) (omega arith)
+returns-in-0-to-18-2 c = range distortion_of (Ok false) 33 70 (unfold distortion_of in refl) (omega arith) (omega arith)

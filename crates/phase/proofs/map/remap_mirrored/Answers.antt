@@ -6,4 +6,4 @@ use Rattle.phase.proofs.map.remap_mirrored.Goals as goal
 pub returns : goal.returns
 unfolding remap_mirrored_map
 returns c out =
-    search (steps, c.unit-u.ensures, c.above-second.ensures, c.pick-x.ensures, c.remap-y.ensures, c.pick.ensures, c.to_word.ensures, c.one.ensures) depth 14
+    search (steps, c.unit-u.ensures, c.above-second.ensures, c.pick-x.ensures, c.remap-y.ensures, c.pick.ensures, c.to_word-word.ensures, c.one.ensures) depth 14

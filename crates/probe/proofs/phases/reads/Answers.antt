@@ -1,30 +1,20 @@
 -- `probe::reads` meets its contract: each list has four reads at most.
-use mathlib.Core.Path.{sym, subst}
-use Rattle.floats.specs.Steps.{steps}
-use Rattle.reads.proofs.Few.{Few, start_few, outgoing_few}
+use Rattle.floats.specs.Steps.{◌>>=◌}
+use Rattle.reads.proofs.Few.{start_few, outgoing_few}
 use Rattle.phase.proofs.Few.{apply_few}
+use Rattle.phase.specs.Setting.{setting_of}
 use Rattle.probe.specs.Phases.{reads_of}
 use Rattle.probe.proofs.phases.reads.Goals as goal
-use Rattle.probe.proofs.phases.reads.Goals.{After-apply-first, After-apply-second, After-start-start}
-
-started : (c : After-start-start) → Few c.start-start.result
-started c = subst Few (sym c.start-start.ensures) (start_few _)
-
-applied : (c : After-apply-first) → Few c.apply-first.result
-applied c = subst Few (sym c.apply-first.ensures) (apply_few _ _ _ _ _ _ _)
-
-again : (c : After-apply-second) → Few c.apply-second.result
-again c = subst Few (sym c.apply-second.ensures) (apply_few _ _ _ _ _ _ _)
 
 pub apply-first-requires : goal.apply-first-requires
-apply-first-requires c = (c.requires.fact_1, (c.requires.fact_2, (started c).few))
+apply-first-requires c = rw c.start.ensures (start_few _).few
 
-pub apply-second-requires : goal.apply-second-requires
-apply-second-requires c = (c.requires.fact_1, (c.requires.fact_2, (applied c).few))
+pub apply-requires : goal.apply-requires
+apply-requires c = rw c.apply-first.ensures (apply_few _ _ _ _ _ _ _).few
 
-pub returns : goal.returns
-unfolding reads_of
-returns c = record {
-  value = search steps depth 12;
-  count_bound = rw c.outgoing.ensures (outgoing_few _ (again (goal.at.returns c).After-apply-second));
-}
+pub returns-clause-value : goal.returns-clause-value
+unfolding reads_of setting_of ◌>>=◌
+returns-clause-value c = rw (c.from.ensures, c.apply.ensures, c.new-map0.ensures, c.apply-first.ensures, c.new-map1.ensures, c.start.ensures)
+
+pub returns-clause-count_bound : goal.returns-clause-count_bound
+returns-clause-count_bound c = rw (c.from.ensures, c.apply.ensures) (outgoing_few _ (apply_few _ _ _ _ _ _ _))

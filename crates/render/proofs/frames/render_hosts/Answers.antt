@@ -1,8 +1,8 @@
 -- `render_hosts` meets its contract: what the host frames so far promise is the invariant.
 use Prim.Native.Nat.{◌*◌}
 use native.Mathlib.Omega.{arith}
-use Rattle.render.specs.Lane.{Lent, inputs_of}
-use Rattle.render.specs.Promises.{lent}
+use Rattle.render.specs.Lane.{Lent, inputs_in}
+use Rattle.render.specs.Slices.{rows_with}
 use Rattle.render.specs.Frames.{Frames}
 use Rattle.render.proofs.InputLaws.{host_rows, host_room}
 use Rattle.render.proofs.FrameLaws.{hosts_none, hosts_more, hosts_done}
@@ -10,50 +10,36 @@ use Rattle.render.proofs.frames.render_hosts.Goals as goal
 use Rattle.render.proofs.frames.render_hosts.Goals.{At-loop-k}
 
 abbrev lends : At-loop-k → Lent
-lends c =
-    let a = c.args in
-    lent a.base0.now a.base1.now a.mod0.now a.mod1.now a.source0.now a.source1.now a.curve.now a.cycle.now a.words.now a.steps.now a.inner.now
+lends c = let a = c.args in rows_with a.rows.now a.curve.values.now a.cycle.samples.now
 
 -- the host frames so far, of this block
 so_far : (c : At-loop-k)
     → let a = c.args in
-    Frames a.b (inputs_of a.b.shaper (lends c) a.lane) a.lane (a.r.first * a.b.shaper.factor) 0 (c.loop-k.k * a.b.shaper.factor) a.v c.loop-k.state a.work.now c.loop-k.work
+    Frames a.b (inputs_in a.b.shaper (lends c) a.lane) a.lane (a.r.first * a.b.shaper.factor) 0 (c.loop-k.k * a.b.shaper.factor) a.v c.loop-k.state a.work.now c.loop-k.work
 so_far c = let a = c.args in c.loop-k.invariant.1 a.b.rate a.b.designs c.fm_scale-scale.ensures
-
-pub fm_scale-scale-requires : goal.fm_scale-scale-requires
-fm_scale-scale-requires c = let p = c.requires.powers_value_3 in (p.rate, p.factor_most)
 
 pub loop-k-init : goal.loop-k-init
 loop-k-init c = (omega arith, hosts_none _ _ _ _ _ _ _)
 
-pub overflow_add-first : goal.overflow_add-first
-overflow_add-first c = let p = c.requires.powers_value_3 in omega (arith, p.range, p.frames)
-
-pub overflow_mul-k : goal.overflow_mul-k
-overflow_mul-k c = let p = c.requires.powers_value_3 in omega (arith, host_rows p c.loop-k.k c.loop-k-test.true)
-
-pub render_host-state-requires : goal.render_host-state-requires
-render_host-state-requires c =
-    let l = (goal.at.render_host-state-requires c).At-loop-k in
-    let p = c.requires in record {
-      powers_value_1 = p.powers_value_1;
-      powers_value_2 = p.powers_value_4;
-      powers_value_3 = host_room p.powers_value_3 c.loop-k.k c.loop-k-test.true p.powers_value_2 (rw (so_far l).size p.lanes_in_bounds);
-      stills = p.stills;
-      readable = p.readable;
-    }
-
 pub loop-k-preserved : goal.loop-k-preserved
 loop-k-preserved c =
-    (omega (arith, c.loop-k-test.true), hosts_more _ _ _ _ _ c.loop-k.k _ _ _ _ _ _ c.requires.powers_value_2 c.loop-k.invariant.1 c.render_host-state.ensures)
+    (omega (arith, c.loop-k-test.true), hosts_more _ _ _ _ _ c.loop-k.k _ _ _ _ _ _ c.requires.inside c.loop-k.invariant.1 c.render_host-state.ensures)
 
 pub returns : goal.returns
 returns c =
     let a = c.args in
     hosts_done _ _ _ _ _ c.loop-k.k a.r.count _ _ _ _ (omega arith) c.loop-k.invariant.1 a.b.rate a.b.designs c.fm_scale-scale.ensures
 
-pub loop-k-smaller : goal.loop-k-smaller
-loop-k-smaller c = omega (arith, c.loop-k-test.true)
+pub overflow_mul-k : goal.overflow_mul-k
+overflow_mul-k c = omega (arith, host_rows c.requires.limits c.loop-k.k c.loop-k-test.true)
+
+pub render_host-state-requires : goal.render_host-state-requires
+render_host-state-requires c =
+    let p = c.requires in record {
+      room = host_room p.limits c.loop-k.k c.loop-k-test.true p.inside (rw (so_far (goal.at.render_host-state-requires c).At-loop-k).size p.writable);
+      stills = p.stills;
+      readable = p.readable;
+    }
 
 pub shape_of-work : goal.shape_of-work
 shape_of-work c = (so_far (goal.at.shape_of-work c).At-loop-k).size

@@ -1,63 +1,30 @@
 -- `single::shape_at_lane` meets its contract.
-use mathlib.Core.Path.{◌≡◌, sym, ◌∙◌}
 use native.Mathlib.Omega.{arith}
-use lib.ListN.{length}
-use Rattle.controls.specs.Controls.{control_buffers, control_lengths}
-use Rattle.shaper.specs.Refusal.{sample_refusal}
-use Rattle.shaper.proofs.RefusalLaws.{SampleAccepted, sample_accepted, driven_of_lem, held_of}
+use Rattle.shaper.proofs.RefusalLaws.{sample_passed, driven_of_lem}
 use Rattle.shaper.proofs.CallLaws.{sample_turned_down, sample_done}
 use Rattle.shaper.proofs.single.shape_at_lane.Goals as goal
-use Rattle.shaper.proofs.single.shape_at_lane.Goals.{After-sample_refused-number, Else-number-ne0}
 
--- what the refusal says of the call
-by-table : (c : After-sample_refused-number)
-    → let a = c.args in
-    c.sample_refused-number.result
-    ≡ sample_refusal a.s a.active a.lane a.r a.frame
-    (control_lengths (control_buffers a.base0.now a.base1.now a.mod0.now a.mod1.now a.source0.now a.source1.now))
-    (length a.pairs.now) (length a.last.now)
-by-table c = rw c.control_lengths-lengths.ensures at c.sample_refused-number.ensures
-
-none : (c : Else-number-ne0)
-    → let a = c.args in
-    sample_refusal a.s a.active a.lane a.r a.frame
-    (control_lengths (control_buffers a.base0.now a.base1.now a.mod0.now a.mod1.now a.source0.now a.source1.now))
-    (length a.pairs.now) (length a.last.now)
-    ≡ 0
-none c = sym (rw c.control_lengths-lengths.ensures at c.sample_refused-number.ensures) ∙ c.if-number-ne0.false
-
-accepted : (c : Else-number-ne0)
-    → let a = c.args in
-    SampleAccepted a.s a.active a.lane a.r a.frame
-    (control_lengths (control_buffers a.base0.now a.base1.now a.mod0.now a.mod1.now a.source0.now a.source1.now))
-    (length a.pairs.now) (length a.last.now)
-accepted c = sample_accepted _ _ _ _ _ _ _ _ (none c)
-
-pub returns-then-number-ne0 : goal.returns-then-number-ne0
-returns-then-number-ne0 c = sample_turned_down _ _ _ _ _ _ _ _ _ _ _ (by-table (goal.at.returns-then-number-ne0 c).After-sample_refused-number) c.if-number-ne0.true
+pub returns-in_err-check_sample : goal.returns-in_err-check_sample
+returns-in_err-check_sample c =
+    sample_turned_down _ _ _ _ _ _ _ _ _ _ _ _ c.from_residual.ensures.1 (rw c.lengths.ensures at c.in_err-check_sample.ensures)
 
 pub nonzero_div-host : goal.nonzero_div-host
-nonzero_div-host c = (accepted (goal.at.nonzero_div-host c).Else-number-ne0).accepted.least
+nonzero_div-host c = (sample_passed c.lengths.ensures c.in_ok-check_sample.ensures).accepted.least
 
 pub overflow_add-host : goal.overflow_add-host
-overflow_add-host c = let spot = (driven_of_lem (accepted (goal.at.overflow_add-host c).Else-number-ne0).accepted).spot in omega (arith, spot.row, spot.block)
-
-pub overflow_cast-host : goal.overflow_cast-host
-overflow_cast-host c = let spot = (driven_of_lem (accepted (goal.at.overflow_cast-host c).Else-number-ne0).accepted).spot in omega (arith, spot.row, spot.block)
+overflow_add-host c =
+    let spot = (driven_of_lem (sample_passed c.lengths.ensures c.in_ok-check_sample.ensures).accepted).spot in
+    omega (arith, spot.row, spot.block)
 
 pub nonzero_rem-sub : goal.nonzero_rem-sub
-nonzero_rem-sub c = (accepted (goal.at.nonzero_rem-sub c).Else-number-ne0).accepted.least
+nonzero_rem-sub c = (sample_passed c.lengths.ensures c.in_ok-check_sample.ensures).accepted.least
 
 pub sample_taken-value-requires : goal.sample_taken-value-requires
 sample_taken-value-requires c =
-    let a = accepted (goal.at.sample_taken-value-requires c).Else-number-ne0 in record {
-      fact_1 = driven_of_lem a.accepted;
-      fact_2 = held_of a.accepted 4 _ a.cells;
-      fact_3 = held_of a.accepted 1 _ (omega (arith, a.kept));
-    }
+    let a = sample_passed c.lengths.ensures c.in_ok-check_sample.ensures in
+    record { driven = driven_of_lem a.accepted; pairs_held = a.cells; last_held = a.kept }
 
 pub returns : goal.returns
 returns c =
-    let test = (goal.at.returns c).Else-number-ne0 in
     let did = c.sample_taken-value in
-    sample_done _ _ _ _ _ _ _ _ _ _ (none test) did.ensures did.auto.pairs did.auto.last
+    sample_done _ _ _ _ _ _ _ _ _ _ (sample_passed c.lengths.ensures c.in_ok-check_sample.ensures).number did.ensures did.auto.pairs did.auto.last

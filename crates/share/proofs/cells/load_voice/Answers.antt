@@ -7,10 +7,10 @@ pub returns : goal.returns
 returns c =
     let a = c.args in
     rw (
-      c.load_pair-pairs0.ensures,
-      c.load_pair-pairs1.ensures,
-      c.place-at0.ensures,
-      c.place-at1.ensures,
+      c.load_pair.ensures,
+      c.load_pair-2.ensures,
+      c.place-first.ensures,
+      c.place.ensures,
       col_at nan _ _ a.fm.now 0,
       col_at nan _ _ a.fm.now 1,
       col_at nan _ _ a.last.now 0,

@@ -1,51 +1,51 @@
 -- `blocks::prepare` meets its contract.
-use mathlib.Core.Path.{◌≡◌, sym, ◌∙◌}
+use mathlib.Core.Path.{◌≡◌, sym}
 use native.Mathlib.Omega.{arith}
-use Rattle.controls.specs.Controls.{control_buffers}
+use lib.ListN.{length-take}
+use lib.Ieee.{Float}
+use Rattle.limits.specs.Refusals.{number_of, answer_of}
+use Rattle.controls.specs.Slices.{control_lists}
 use Rattle.spans.specs.Refusal.{prepare_refusal}
 use Rattle.spans.specs.Prepared.{spans, lengths_of}
 use Rattle.spans.proofs.RefusalLaws.{accepted}
 use Rattle.spans.proofs.PreparedLaws.{turned_down_lem, done}
 use Rattle.spans.proofs.blocks.prepare.Goals as goal
-use Rattle.spans.proofs.blocks.prepare.Goals.{After-prepare_refused-number, Else-number-ne0}
+use Rattle.spans.proofs.blocks.prepare.Goals.{In_ok-check_prepare}
 
--- ---- the test
-
-by-table : (c : After-prepare_refused-number)
-    → let a = c.args in
-    c.prepare_refused-number.result
-    ≡ prepare_refusal a.mode0 a.mode1 a.factor a.lanes a.active a.frames a.rate
-    (lengths_of (control_buffers a.base0.now a.base1.now a.mod0.now a.mod1.now a.source0.now a.source1.now) a.curve.now (spans a.inner.now a.stretch.now a.add.now))
-by-table c = rw c.control_lengths.ensures at c.prepare_refused-number.ensures
-
-none : (c : Else-number-ne0)
-    → let a = c.args in
-    prepare_refusal a.mode0 a.mode1 a.factor a.lanes a.active a.frames a.rate
-    (lengths_of (control_buffers a.base0.now a.base1.now a.mod0.now a.mod1.now a.source0.now a.source1.now) a.curve.now (spans a.inner.now a.stretch.now a.add.now))
+passed : (c : In_ok-check_prepare)
+    → let b = c.args.block in
+    prepare_refusal b.mode0 b.mode1 b.factor b.lanes b.active b.frames b.rate
+    (lengths_of (control_lists c.args.controls.now) c.args.curve.now (spans c.args.inner.now c.args.stretch.now c.args.add.now))
     ≡ 0
-none c = sym (rw c.control_lengths.ensures at c.prepare_refused-number.ensures) ∙ c.if-number-ne0.false
+unfolding number_of
+passed c = sym (rw c.lengths.ensures at c.in_ok-check_prepare.ensures)
 
-pub returns-then-number-ne0 : goal.returns-then-number-ne0
-returns-then-number-ne0 c = turned_down_lem _ _ _ _ _ _ _ _ _ _ _ (by-table (goal.at.returns-then-number-ne0 c).After-prepare_refused-number) c.if-number-ne0.true
+pub returns-in_err-check_prepare : goal.returns-in_err-check_prepare
+returns-in_err-check_prepare c =
+    turned_down_lem _ _ _ _ _ _ _ _ _ _ _ _ c.from_residual.ensures.1 (rw c.lengths.ensures at c.in_err-check_prepare.ensures)
 
--- ---- what the calls ask for
+pub slice_bounds-values-end : goal.slice_bounds-values-end
+slice_bounds-values-end c =
+    let p = accepted _ _ _ _ _ _ _ _ (passed (goal.at.slice_bounds-values-end c).In_ok-check_prepare) in omega (arith, p.curves, length-take {A = Float})
 
-pub slice_bounds-table-end : goal.slice_bounds-table-end
-slice_bounds-table-end c = let p = accepted _ _ _ _ _ _ _ _ (none (goal.at.slice_bounds-table-end c).Else-number-ne0) in omega (arith, p.curves)
+pub invariant_of-curve : goal.invariant_of-curve
+invariant_of-curve c =
+    let p = accepted _ _ _ _ _ _ _ _ (passed (goal.at.invariant_of-curve c).In_ok-check_prepare) in
+    record { whole = omega (arith, p.curves, length-take {A = Float}) }
 
-pub spans_of-rows-requires : goal.spans_of-rows-requires
-spans_of-rows-requires c = (accepted _ _ _ _ _ _ _ _ (none (goal.at.spans_of-rows-requires c).Else-number-ne0)).takes.block
+pub invariant_of-prepared : goal.invariant_of-prepared
+invariant_of-prepared c =
+    let p = accepted _ _ _ _ _ _ _ _ (passed (goal.at.invariant_of-prepared c).In_ok-check_prepare) in
+    record { rendered = p.rendered; rates = p.rates; few = p.block }
 
 pub prepare_lanes-requires : goal.prepare_lanes-requires
 prepare_lanes-requires c =
-    let p = accepted _ _ _ _ _ _ _ _ (none (goal.at.prepare_lanes-requires c).Else-number-ne0) in record {
-      powers_value = c.power_table-powers.ensures.value;
-      takes = rw c.spans_of-rows.ensures p.takes;
-      active_le_n = p.lanes;
-    }
+    let p = accepted _ _ _ _ _ _ _ _ (passed (goal.at.prepare_lanes-requires c).In_ok-check_prepare) in
+    record { takes = rw c.spans_of.ensures p.takes; active_le_lanes = p.lanes }
 
 pub returns : goal.returns
+unfolding answer_of
 returns c =
     let did = c.prepare_lanes in
-    done _ _ _ _ _ _ _ _ _ _ (none (goal.at.returns c).Else-number-ne0) c.spans_of-rows.ensures c.steepest_of-steepest.ensures did.ensures
+    done _ _ _ _ _ _ _ _ _ _ (passed (goal.at.returns c).In_ok-check_prepare) c.spans_of.ensures c.steepest.ensures did.ensures
     did.auto.inner did.auto.stretch did.auto.add

@@ -1,0 +1,3 @@
+-- The definitions that contracts cite.
+pub mod Hash
+pub mod Random

@@ -1,6 +1,0 @@
--- `drawn::start` meets its contract.
-use Rattle.std.proofs.Common.{sym, arith, length-take-le}
-use Rattle.file_answers.proofs.drawn.start.Goals as goal
-
-pub slice_bounds-result-end : goal.slice_bounds-result-end
-slice_bounds-result-end c = sym (length-take-le _ _ (omega arith))

@@ -1,0 +1,21 @@
+-- The slices that a block run is lent, by their lists. Definitions only.
+use Rattle.std.specs.Prelude.{List, Float}
+use Rattle.controls.specs.Slices.{control_lists}
+use Rattle.render.specs.declared.lent.Rows.{Rows}
+use Rattle.render.specs.declared.lent.LentSlices.{LentSlices}
+use Rattle.render.specs.Lane.{Lent}
+
+-- rows beside a curve and a cycle
+abbrev pub rows_with : Rows → List Float → List Float → Lent
+rows_with r curve cycle =
+    record {
+      controls = control_lists r.controls;
+      curve = curve;
+      cycle = cycle;
+      words = r.words.now;
+      steps = r.steps.now;
+      inner = r.inner.now;
+    }
+
+abbrev pub lent_lists : LentSlices → Lent
+lent_lists l = rows_with l.rows l.curve.now l.cycle.now

@@ -1,7 +1,0 @@
--- `refusal::prepare_writes_short` meets its contract.
-
-use Rattle.spans.proofs.refusal.prepare_writes_short.Goals as goal
-
-pub returns : goal.returns
-returns c =
-    rw (c.short-3.ensures, c.short-2.ensures, c.short.ensures, c.span_length-cells.ensures)
