@@ -9,7 +9,7 @@ ghost use Rattle.block.specs.Call.{called, Taken, Meets};
 
 use crate::refusal::{call_numbers, check, read_lengths, write_lengths};
 use limits::{COEFS_LENGTH, NUMBERS_LENGTH, Refusal};
-use render::{BlockSettings, LentSlices};
+use render::{BlockSettings, LaneRange, LentSlices};
 use shaper::Range;
 use share::run_lane;
 
@@ -35,7 +35,12 @@ pub fn run_lanes(
         (buffers output.new work.new pairs.new fm.new last.new dec.new) }
 {
     for lane in from as usize..to as usize {
-        run_lane(b, r, lane, lent, output, work, pairs, fm, last, dec);
+        let part = LaneRange {
+            block: b,
+            range: r,
+            lane,
+        };
+        run_lane(part, lent, output, work, pairs, fm, last, dec);
     }
 }
 

@@ -1,7 +1,6 @@
 // One rendered frame of one lane.
 ghost use Rattle.std.specs.Prelude.{◌≡◌, ◌*◌, length, false};
 ghost use Rattle.grid.specs.Cells.{column};
-ghost use Rattle.voice.specs.Power.{power_of};
 ghost use Rattle.voice.specs.WaveRun.{has_state};
 ghost use Rattle.controls.specs.Controls.{lent_of};
 ghost use Rattle.render.specs.Frames.{frame_of, frame_at, Levelled, Powered, Framed};
@@ -11,10 +10,10 @@ use crate::state::{HostFrame, Stepped, Voice};
 use controls::LaneFrame;
 use curve::Curve;
 use grid::Lane;
-use phase::{Slot, Tables};
+use phase::Tables;
 use reads::Cycle;
 use shaper::Settings;
-use voice::{Control, has_state, in_phase, shape_level, shape_of, sum_of};
+use voice::{Control, Driven, has_state, in_phase, shape_level, shape_of, sum_of};
 
 // `frame_of` where a slot maps or has a state: it takes the sine's and the arctangent's numbers.
 fn full_frame(
@@ -22,33 +21,26 @@ fn full_frame(
     scale: f32,
     curve: Curve<'_>,
     cycle: Cycle<'_>,
-    control0: Control,
-    control1: Control,
-    power0: f32,
-    power1: f32,
+    slot0: Driven,
+    slot1: Driven,
     inner: f32,
     word: u32,
     step: u32,
     v: Voice,
 ) -> Stepped
-    requires power0 { power0 ≡ power_of s.slot0.mode control0.amount }
-    requires power1 { power1 ≡ power_of s.slot1.mode control1.amount }
-    ensures { result ≡ frame_of s scale curve.entry.values.now cycle.entry.samples.now control0 control1 inner word step v }
+    requires own0 { slot0.slot ≡ s.slot0 }
+    requires own1 { slot1.slot ≡ s.slot1 }
+    ensures { result ≡ frame_of s scale curve.entry.values.now cycle.entry.samples.now slot0.control slot1.control inner word step v }
 {
     let Settings {
-        slot0,
-        slot1,
-        numbers,
-        ..
+        factor, numbers, ..
     } = s;
     let tables = Tables { numbers, curve };
     let raw = sum_of(
-        tables, cycle, slot0, slot1, s.factor, scale, control0, control1, power0, power1, inner,
-        word, step, v.fm0, v.fm1,
+        tables, cycle, slot0, slot1, factor, scale, inner, word, step, v.fm0, v.fm1,
     );
     let shaped = shape_of(
-        numbers, slot0, slot1, control0, control1, power0, power1, step, raw.x, v.pairs0, v.pairs1,
-        v.last,
+        numbers, slot0, slot1, step, raw.x, v.pairs0, v.pairs1, v.last,
     );
     Stepped {
         sample: shaped.y,
@@ -63,23 +55,13 @@ fn full_frame(
 }
 
 // `frame_of` where no slot maps or has a state: one read, through slots that set its level at the most.
-fn level_frame(
-    slot0: Slot,
-    slot1: Slot,
-    cycle: Cycle<'_>,
-    control0: Control,
-    control1: Control,
-    word: u32,
-    v: Voice,
-) -> Stepped
-    requires stateless0 { has_state slot0.mode ≡ false }
-    requires stateless1 { has_state slot1.mode ≡ false }
-    ensures { Levelled result slot0 slot1 cycle.entry.samples.now control0 control1 word v }
+fn level_frame(slot0: Driven, slot1: Driven, cycle: Cycle<'_>, word: u32, v: Voice) -> Stepped
+    requires stateless0 { has_state slot0.slot.mode ≡ false }
+    requires stateless1 { has_state slot1.slot.mode ≡ false }
+    ensures { Levelled result slot0.slot slot1.slot cycle.entry.samples.now slot0.control slot1.control word v }
 {
     let x = cycle.read(word);
-    let shaped = shape_level(
-        slot0, slot1, control0, control1, x, v.pairs0, v.pairs1, v.last,
-    );
+    let shaped = shape_level(slot0, slot1, x, v.pairs0, v.pairs1, v.last);
     Stepped {
         sample: shaped.y,
         voice: Voice {
@@ -99,29 +81,25 @@ fn frame_of(
     scale: f32,
     curve: Curve<'_>,
     cycle: Cycle<'_>,
-    control0: Control,
-    control1: Control,
-    power0: f32,
-    power1: f32,
+    slot0: Driven,
+    slot1: Driven,
     inner: f32,
     word: u32,
     step: u32,
     v: Voice,
 ) -> Stepped
-    requires power0 { power0 ≡ power_of s.slot0.mode control0.amount }
-    requires power1 { power1 ≡ power_of s.slot1.mode control1.amount }
-    ensures { result ≡ frame_of s scale curve.entry.values.now cycle.entry.samples.now control0 control1 inner word step v }
+    requires own0 { slot0.slot ≡ s.slot0 }
+    requires own1 { slot1.slot ≡ s.slot1 }
+    ensures { result ≡ frame_of s scale curve.entry.values.now cycle.entry.samples.now slot0.control slot1.control inner word step v }
 {
-    let slot0 = s.slot0;
-    let slot1 = s.slot1;
-    let mapped = in_phase(slot0.mode) | in_phase(slot1.mode);
-    let stated = has_state(slot0.mode) | has_state(slot1.mode);
+    let mode0 = slot0.slot.mode;
+    let mode1 = slot1.slot.mode;
+    let mapped = in_phase(mode0) | in_phase(mode1);
+    let stated = has_state(mode0) | has_state(mode1);
     if mapped | stated {
-        return full_frame(
-            s, scale, curve, cycle, control0, control1, power0, power1, inner, word, step, v,
-        );
+        return full_frame(s, scale, curve, cycle, slot0, slot1, inner, word, step, v);
     }
-    level_frame(slot0, slot1, cycle, control0, control1, word, v)
+    level_frame(slot0, slot1, cycle, word, v)
 }
 
 // Rendered frame `sub` of host frame `host`.
@@ -161,13 +139,21 @@ pub fn frame_at(
         drive1,
         inner,
     } = h;
-    let control0 = Control {
-        amount: drive0.amount,
-        source: at.heard(s.slot0.mode, rows.controls.source0, v.last, factor, sub),
+    let slot0 = Driven {
+        slot: s.slot0,
+        control: Control {
+            amount: drive0.amount,
+            source: at.heard(s.slot0.mode, rows.controls.source0, v.last, factor, sub),
+        },
+        power: drive0.power,
     };
-    let control1 = Control {
-        amount: drive1.amount,
-        source: at.heard(s.slot1.mode, rows.controls.source1, v.last, factor, sub),
+    let slot1 = Driven {
+        slot: s.slot1,
+        control: Control {
+            amount: drive1.amount,
+            source: at.heard(s.slot1.mode, rows.controls.source1, v.last, factor, sub),
+        },
+        power: drive1.power,
     };
     let rendered = at.lane.place(host * factor as usize + sub as usize);
     frame_of(
@@ -175,10 +161,8 @@ pub fn frame_at(
         scale,
         curve,
         cycle,
-        control0,
-        control1,
-        drive0.power,
-        drive1.power,
+        slot0,
+        slot1,
         inner,
         rows.words[rendered],
         rows.steps[rendered],

@@ -12,4 +12,4 @@ pub mod state;
 
 pub use frames::render_lane;
 pub use lent::{LentSlices, Rows};
-pub use state::{BlockSettings, Voice};
+pub use state::{BlockSettings, LaneRange, Voice};

@@ -1,6 +1,9 @@
 // The settings of a block run, and what a render carries from frame to frame.
+ghost use Rattle.std.specs.Prelude.{◌<◌};
+ghost use Rattle.render.specs.Promises.{Limits};
+
 use halfband::Designs;
-use shaper::Settings;
+use shaper::{Range, Settings};
 use wave::Svf;
 
 // All numbers of a block run that belong to no lane, save its range and its count of active lanes:
@@ -10,6 +13,16 @@ pub struct BlockSettings {
     pub shaper: Settings,
     pub rate: u32,
     pub designs: Designs,
+}
+
+// A lane's share of a range of a block, within the limits.
+#[derive(Clone, Copy)]
+pub struct LaneRange {
+    pub block: BlockSettings,
+    pub range: Range,
+    pub lane: usize,
+    ghost limits: { Limits block range },
+    ghost inside: { lane < block.shaper.lanes },
 }
 
 // A lane's filter pairs, FM carry and `last`.

@@ -15,7 +15,7 @@ use curve::Curve;
 use grid::Lane;
 use limits::{CURVE_LENGTH, SUB_BLOCK};
 use phase::Tables;
-use voice::{Reads, Shaped, fm_scale, power_of, reads_of, shape_of};
+use voice::{Reads, Shaped, fm_scale, reads_of, shape_of};
 use wave::Svf;
 
 // The read list, and the FM carry after it.
@@ -79,19 +79,13 @@ pub fn reads_at(
         sub,
     );
     let span = at.lane.place(host / SUB_BLOCK);
-    let power0 = power_of(slot0.mode, control0.amount);
-    let power1 = power_of(slot1.mode, control1.amount);
     let tables = Tables { numbers, curve };
     reads_of(
         tables,
-        slot0,
-        slot1,
+        voice::Driven::new(slot0, control0),
+        voice::Driven::new(slot1, control1),
         factor,
         scale,
-        control0,
-        control1,
-        power0,
-        power1,
         inner[span],
         word,
         step,
@@ -150,9 +144,14 @@ pub fn shape_at(
         factor,
         sub,
     );
-    let power0 = power_of(slot0.mode, control0.amount);
-    let power1 = power_of(slot1.mode, control1.amount);
     shape_of(
-        numbers, slot0, slot1, control0, control1, power0, power1, step, x, pairs0, pairs1, last,
+        numbers,
+        voice::Driven::new(slot0, control0),
+        voice::Driven::new(slot1, control1),
+        step,
+        x,
+        pairs0,
+        pairs1,
+        last,
     )
 }

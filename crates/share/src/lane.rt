@@ -1,10 +1,10 @@
 // One lane's whole share of a range.
-ghost use Rattle.std.specs.Prelude.{◌≡◌, ◌+◌, ◌<◌, length};
+ghost use Rattle.std.specs.Prelude.{◌≡◌, ◌+◌, length};
 ghost use Rattle.std.specs.Float.{nan};
 ghost use Rattle.grid.specs.Functions.{span};
 ghost use Rattle.grid.specs.Cells.{col, columns};
 ghost use Rattle.grid.specs.Lanes.{Each};
-ghost use Rattle.render.specs.Promises.{Limits, Readable};
+ghost use Rattle.render.specs.Promises.{Readable};
 ghost use Rattle.render.specs.Slices.{lent_lists};
 ghost use Rattle.share.specs.Share.{buffers};
 ghost use Rattle.share.specs.Promises.{Writable, Copied, Shared};
@@ -15,8 +15,7 @@ use grid::Lane;
 use halfband::{decimate_lane, stages_of};
 use limits::{CURVE_LENGTH, CYCLE_LENGTH};
 use reads::Cycle;
-use render::{BlockSettings, LentSlices, render_lane};
-use shaper::Range;
+use render::{LaneRange, LentSlices, render_lane};
 
 // The lane's first `count` work rows to the output rows from `first` on.
 fn copy_lane(first: usize, count: usize, lane: Lane, work: &[f32], output: &mut [f32])
@@ -34,9 +33,7 @@ fn copy_lane(first: usize, count: usize, lane: Lane, work: &[f32], output: &mut 
 // state is carried on. The six slices that are written stay parameters, here and above: out of a struct, what
 // they end as at an edge to C is told by names of the check's own alone.
 pub fn run_lane(
-    b: BlockSettings,
-    r: Range,
-    lane: usize,
+    part: LaneRange,
     lent: &LentSlices<'_>,
     output: &mut [f32],
     work: &mut [f32],
@@ -45,21 +42,19 @@ pub fn run_lane(
     last: &mut [f32],
     dec: &mut [f32],
 )
-    requires inside { lane < b.shaper.lanes }
-    requires limits { Limits b r }
-    requires readable { Readable b.shaper (lent_lists lent.now) }
-    requires writable { Writable b.shaper r (buffers output.old work.old pairs.old fm.old last.old dec.old) }
-    ensures { Shared b r (lent_lists lent.now) lane (lane + 1)
+    requires readable { Readable part.block.shaper (lent_lists lent.now) }
+    requires writable { Writable part.block.shaper part.range (buffers output.old work.old pairs.old fm.old last.old dec.old) }
+    ensures { Shared part.block part.range (lent_lists lent.now) part.lane (part.lane + 1)
         (buffers output.old work.old pairs.old fm.old last.old dec.old)
         (buffers output.new work.new pairs.new fm.new last.new dec.new) }
 {
-    let s = b.shaper;
+    let s = part.block.shaper;
     let at = Lane {
         lanes: s.lanes as usize,
-        index: lane,
+        index: part.lane,
     };
-    let first = r.first as usize;
-    let count = r.count as usize;
+    let first = part.range.first as usize;
+    let count = part.range.count as usize;
     // The tables in just the entries that are asked for: past them nothing is read.
     let curve = Curve {
         values: &lent.curve[..CURVE_LENGTH],
@@ -68,8 +63,8 @@ pub fn run_lane(
         samples: &lent.cycle[..CYCLE_LENGTH],
     };
     let v = load_voice(at, pairs, fm, last);
-    let end = render_lane(b, r, lane, v, &lent.rows, curve, cycle, work);
+    let end = render_lane(part, v, &lent.rows, curve, cycle, work);
     store_voice(at, end, pairs, fm, last);
-    decimate_lane(&b.designs, stages_of(s.factor), count, at, work, dec);
+    decimate_lane(&part.block.designs, stages_of(s.factor), count, at, work, dec);
     copy_lane(first, count, at, work, output);
 }

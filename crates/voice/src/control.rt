@@ -2,6 +2,7 @@
 ghost use Rattle.std.specs.Prelude.{◌≡◌};
 ghost use Rattle.voice.specs.Power.{power_of};
 
+use crate::power::power_of;
 use phase::Slot;
 
 // What drives a slot: its amount, 0 to 1, and what it hears, if it has a source.
@@ -11,11 +12,26 @@ pub struct Control {
     pub source: Option<f32>,
 }
 
-// A slot with what drives it, and its power at that amount.
+// A slot with what drives it, and the power of two that it takes at that amount.
 #[derive(Clone, Copy)]
-pub(crate) struct Driven {
+pub struct Driven {
     pub slot: Slot,
     pub control: Control,
     pub power: f32,
     ghost powered: { power ≡ power_of slot.mode control.amount },
+}
+
+impl Driven {
+    // With the power worked out.
+    pub fn new(slot: Slot, control: Control) -> Driven
+        ensures slot { result.slot ≡ slot }
+        ensures control { result.control ≡ control }
+    {
+        let power = power_of(slot.mode, control.amount);
+        Driven {
+            slot,
+            control,
+            power,
+        }
+    }
 }

@@ -8,7 +8,7 @@ pub mod power;
 pub mod sum_run;
 pub mod wave_run;
 
-pub use control::Control;
+pub use control::{Control, Driven};
 pub use phase_run::{
     FM_MAX_HZ, PD_MAX_CYCLES, Reads, fm_exponential, fm_scale, in_phase, is_own, reads_of,
 };

@@ -1,14 +1,13 @@
 // The phase stage: the read list of a lane, with the FM carry of its two slots.
 ghost use Rattle.std.specs.Prelude.{◌≡◌, ◌≤◌};
 ghost use Rattle.phase.specs.Setting.{setting_if};
-ghost use Rattle.voice.specs.Power.{power_of};
 ghost use Rattle.voice.specs.PhaseRun.{in_phase, is_own, fm_exponential, fm_scale, fm_cycles, carried_on, fm_offset, offset_of, offset_if, moved_of, map_slot, half_width, list_of, reads_of};
 
 use crate::control::{Control, Driven};
 use floats::{exp2, floor, nearest_u32};
 use lanes::{max, signed, to_word};
 use modes::{FmType, Modulated, Source, Stage};
-use phase::{MapSetting, Slot, Tables};
+use phase::{MapSetting, Tables};
 use reads::{LaneReads, ReadList};
 use wave::is_modulated;
 
@@ -224,45 +223,29 @@ fn list_of(
     }
 }
 
-// The read list of a lane at one rendered frame: `power0` and `power1` are the slots' powers, `inner` is
-// slot 1's steepest slope as prepared, `fm0` and `fm1` the FM carry of slots 0 and 1.
+// The read list of a lane at one rendered frame: `inner` is slot 1's steepest slope as prepared, `fm0` and
+// `fm1` the FM carry of slots 0 and 1.
 #[tactic(auto, unfolding(crate::specs::PhaseRun::reads_of, reads::specs::Reads::one_read), using(floats::specs::Steps::steps))]
 pub fn reads_of(
     tables: Tables<'_>,
-    slot0: Slot,
-    slot1: Slot,
+    slot0: Driven,
+    slot1: Driven,
     factor: u32,
     scale: f32,
-    control0: Control,
-    control1: Control,
-    power0: f32,
-    power1: f32,
     inner: f32,
     word: u32,
     step: u32,
     fm0: f32,
     fm1: f32,
 ) -> Reads
-    requires powered0 { power0 ≡ power_of slot0.mode control0.amount }
-    requires powered1 { power1 ≡ power_of slot1.mode control1.amount }
     ensures value { result ≡ reads_of tables.entry.numbers.sin tables.entry.numbers.atan tables.entry.curve.values.now
-        slot0 slot1 factor scale control0 control1 inner word step fm0 fm1 }
+        slot0.slot slot1.slot factor scale slot0.control slot1.control inner word step fm0 fm1 }
     ensures count_bound { result.reads.count ≤ 4 }
 {
-    if in_phase(slot0.mode) | in_phase(slot1.mode) {
-        let driven0 = Driven {
-            slot: slot0,
-            control: control0,
-            power: power0,
-        };
-        let driven1 = Driven {
-            slot: slot1,
-            control: control1,
-            power: power1,
-        };
+    if in_phase(slot0.slot.mode) | in_phase(slot1.slot.mode) {
         let increment = signed(step);
         return list_of(
-            tables, driven0, driven1, factor, scale, inner, word, increment, fm0, fm1,
+            tables, slot0, slot1, factor, scale, inner, word, increment, fm0, fm1,
         );
     }
     Reads {

@@ -2,12 +2,11 @@
 ghost use Rattle.std.specs.Prelude.{◌≡◌};
 ghost use Rattle.voice.specs.PhaseRun.{list_of, reads_of};
 ghost use Rattle.voice.specs.SumRun.{slide_of, both_of, summed_of};
-ghost use Rattle.voice.specs.Power.{power_of};
 
-use crate::control::{Control, Driven};
+use crate::control::Driven;
 use crate::phase_run::{half_width, in_phase};
 use lanes::{add_words, signed};
-use phase::{Reading, Slot, Tables, mapped_sum};
+use phase::{Reading, Tables, mapped_sum};
 use reads::Cycle;
 
 // How a slot moves the reads: by `word`, if at all; and its FM carry after it.
@@ -91,40 +90,24 @@ fn sum_list(
 pub fn sum_of(
     tables: Tables<'_>,
     cycle: Cycle<'_>,
-    slot0: Slot,
-    slot1: Slot,
+    slot0: Driven,
+    slot1: Driven,
     factor: u32,
     scale: f32,
-    control0: Control,
-    control1: Control,
-    power0: f32,
-    power1: f32,
     inner: f32,
     word: u32,
     step: u32,
     fm0: f32,
     fm1: f32,
 ) -> Summed
-    requires powered0 { power0 ≡ power_of slot0.mode control0.amount }
-    requires powered1 { power1 ≡ power_of slot1.mode control1.amount }
     ensures { result ≡ summed_of cycle.entry.samples.now
         (reads_of tables.entry.numbers.sin tables.entry.numbers.atan tables.entry.curve.values.now
-        slot0 slot1 factor scale control0 control1 inner word step fm0 fm1) }
+        slot0.slot slot1.slot factor scale slot0.control slot1.control inner word step fm0 fm1) }
 {
-    if in_phase(slot0.mode) | in_phase(slot1.mode) {
-        let driven0 = Driven {
-            slot: slot0,
-            control: control0,
-            power: power0,
-        };
-        let driven1 = Driven {
-            slot: slot1,
-            control: control1,
-            power: power1,
-        };
+    if in_phase(slot0.slot.mode) | in_phase(slot1.slot.mode) {
         let increment = signed(step);
         return sum_list(
-            tables, cycle, driven0, driven1, factor, scale, inner, word, increment, fm0, fm1,
+            tables, cycle, slot0, slot1, factor, scale, inner, word, increment, fm0, fm1,
         );
     }
     Summed {

@@ -1,7 +1,6 @@
 // The wave stage: a lane's sample shaped, with the filter pairs of its two slots and `last`.
 ghost use Rattle.std.specs.Prelude.{◌≡◌, false};
 ghost use Rattle.floats.specs.Steps.{when◌then◌else◌};
-ghost use Rattle.voice.specs.Power.{power_of};
 ghost use Rattle.voice.specs.WaveRun.{tracks, slot_of, has_state, Passes, ShapedBy, shaped_of};
 
 use crate::control::{Control, Driven};
@@ -81,72 +80,54 @@ pub fn has_state(mode: u32) -> bool
 }
 
 // What a slot without a state makes of the sample.
-fn level_of(slot: Slot, control: Control, x: f32) -> f32
-    requires { has_state slot.mode ≡ false }
-    ensures { Passes result slot control x }
+fn level_of(driven: Driven, x: f32) -> f32
+    requires { has_state driven.slot.mode ≡ false }
+    ensures { Passes result driven.slot driven.control x }
 {
-    if !in_wave(slot.mode) {
+    let mode = driven.slot.mode;
+    if !in_wave(mode) {
         return x;
     }
-    let setting = level_setting(control.amount, control.source);
-    level(slot.mode, setting, x)
+    let Control { amount, source } = driven.control;
+    level(mode, level_setting(amount, source), x)
 }
 
 // `shape_of` where no slot has a state: no number of the sine is asked for, and the step is not looked at.
 pub fn shape_level(
-    slot0: Slot,
-    slot1: Slot,
-    control0: Control,
-    control1: Control,
+    slot0: Driven,
+    slot1: Driven,
     x: f32,
     pairs0: Svf,
     pairs1: Svf,
     last: f32,
 ) -> Shaped
-    requires stateless0 { has_state slot0.mode ≡ false }
-    requires stateless1 { has_state slot1.mode ≡ false }
-    ensures { ShapedBy result slot0 slot1 control0 control1 x pairs0 pairs1 last }
+    requires stateless0 { has_state slot0.slot.mode ≡ false }
+    requires stateless1 { has_state slot1.slot.mode ≡ false }
+    ensures { ShapedBy result slot0.slot slot1.slot slot0.control slot1.control x pairs0 pairs1 last }
 {
     Shaped {
-        y: level_of(slot1, control1, level_of(slot0, control0, x)),
+        y: level_of(slot1, level_of(slot0, x)),
         pairs0,
         pairs1,
-        last: kept(slot0.mode, slot1.mode, x, last),
+        last: kept(slot0.slot.mode, slot1.slot.mode, x, last),
     }
 }
 
-// The sample `x` of a lane at one rendered frame, shaped by slot 0 and then slot 1, whose powers are
-// `power0` and `power1`.
+// The sample `x` of a lane at one rendered frame, shaped by slot 0 and then slot 1.
 pub fn shape_of(
     numbers: Numbers,
-    slot0: Slot,
-    slot1: Slot,
-    control0: Control,
-    control1: Control,
-    power0: f32,
-    power1: f32,
+    slot0: Driven,
+    slot1: Driven,
     step: u32,
     x: f32,
     pairs0: Svf,
     pairs1: Svf,
     last: f32,
 ) -> Shaped
-    requires powered0 { power0 ≡ power_of slot0.mode control0.amount }
-    requires powered1 { power1 ≡ power_of slot1.mode control1.amount }
-    ensures { result ≡ shaped_of numbers.sin slot0 slot1 control0 control1 step x pairs0 pairs1 last }
+    ensures { result ≡ shaped_of numbers.sin slot0.slot slot1.slot slot0.control slot1.control step x pairs0 pairs1 last }
 {
-    if has_state(slot0.mode) | has_state(slot1.mode) {
-        let driven0 = Driven {
-            slot: slot0,
-            control: control0,
-            power: power0,
-        };
-        let driven1 = Driven {
-            slot: slot1,
-            control: control1,
-            power: power1,
-        };
-        return shape_stated(numbers, driven0, driven1, step, x, pairs0, pairs1, last);
+    if has_state(slot0.slot.mode) | has_state(slot1.slot.mode) {
+        return shape_stated(numbers, slot0, slot1, step, x, pairs0, pairs1, last);
     }
-    shape_level(slot0, slot1, control0, control1, x, pairs0, pairs1, last)
+    shape_level(slot0, slot1, x, pairs0, pairs1, last)
 }

@@ -5,4 +5,5 @@ use Rattle.render.proofs.frame.full_frame.Goals as goal
 
 pub returns : goal.returns
 unfolding frame_of
-returns c = rw (given c.sum_of-raw.ensures, given c.shape_of-shaped.ensures)
+returns c =
+    rw (← c.requires.own0, ← c.requires.own1, given c.sum_of-raw.ensures, given c.shape_of-shaped.ensures)

@@ -15,28 +15,30 @@ lends c = let a = c.args in rows_with a.rows.now a.curve.values.now a.cycle.samp
 -- the host frames so far, of this block
 so_far : (c : At-loop-k)
     → let a = c.args in
-    Frames a.b (inputs_in a.b.shaper (lends c) a.lane) a.lane (a.r.first * a.b.shaper.factor) 0 (c.loop-k.k * a.b.shaper.factor) a.v c.loop-k.state a.work.now c.loop-k.work
-so_far c = let a = c.args in c.loop-k.invariant.1 a.b.rate a.b.designs c.fm_scale-scale.ensures
+    let b = a.part.block in
+    Frames b (inputs_in b.shaper (lends c) a.part.lane) a.part.lane (a.part.range.first * b.shaper.factor) 0 (c.loop-k.k * b.shaper.factor) a.v c.loop-k.state a.work.now c.loop-k.work
+so_far c = let b = c.args.part.block in c.loop-k.invariant.1 b.rate b.designs c.fm_scale-scale.ensures
 
 pub loop-k-init : goal.loop-k-init
 loop-k-init c = (omega arith, hosts_none _ _ _ _ _ _ _)
 
 pub loop-k-preserved : goal.loop-k-preserved
 loop-k-preserved c =
-    (omega (arith, c.loop-k-test.true), hosts_more _ _ _ _ _ c.loop-k.k _ _ _ _ _ _ c.requires.inside c.loop-k.invariant.1 c.render_host-state.ensures)
+    (omega (arith, c.loop-k-test.true), hosts_more _ _ _ _ _ c.loop-k.k _ _ _ _ _ _ c.args.part.inside c.loop-k.invariant.1 c.render_host-state.ensures)
 
 pub returns : goal.returns
 returns c =
     let a = c.args in
-    hosts_done _ _ _ _ _ c.loop-k.k a.r.count _ _ _ _ (omega arith) c.loop-k.invariant.1 a.b.rate a.b.designs c.fm_scale-scale.ensures
+    hosts_done _ _ _ _ _ c.loop-k.k a.part.range.count _ _ _ _ (omega arith) c.loop-k.invariant.1 a.part.block.rate a.part.block.designs c.fm_scale-scale.ensures
 
 pub overflow_mul-k : goal.overflow_mul-k
-overflow_mul-k c = omega (arith, host_rows c.requires.limits c.loop-k.k c.loop-k-test.true)
+overflow_mul-k c = omega (arith, host_rows c.args.part.limits c.loop-k.k c.loop-k-test.true)
 
 pub render_host-state-requires : goal.render_host-state-requires
 render_host-state-requires c =
-    let p = c.requires in record {
-      room = host_room p.limits c.loop-k.k c.loop-k-test.true p.inside (rw (so_far (goal.at.render_host-state-requires c).At-loop-k).size p.writable);
+    let p = c.requires in
+    let part = c.args.part in record {
+      room = host_room part.limits c.loop-k.k c.loop-k-test.true part.inside (rw (so_far (goal.at.render_host-state-requires c).At-loop-k).size p.writable);
       stills = p.stills;
       readable = p.readable;
     }

@@ -13,10 +13,10 @@ lends c = let a = c.args in rows_with a.rows.now a.curve.values.now a.cycle.samp
 pub read_lane-requires : goal.read_lane-requires
 read_lane-requires c =
     let p = c.requires in
-    unshaped p.limits (lends (goal.at.read_lane-requires c).Start) _ p.inside p.readable _ p.writable
+    unshaped c.args.part.limits (lends (goal.at.read_lane-requires c).Start) _ c.args.part.inside p.readable _ p.writable
 
 pub returns-then-is_plain : goal.returns-then-is_plain
 returns-then-is_plain c =
     let p = c.requires in
-    plain_frames p.limits (lends (goal.at.returns-then-is_plain c).Start) _ p.inside p.readable _ _ _
+    plain_frames c.args.part.limits (lends (goal.at.returns-then-is_plain c).Start) _ c.args.part.inside p.readable _ _ _
     (neither _ _ (sym c.is_plain.ensures ∙ c.if-is_plain.true)) (search rules) c.read_lane.ensures

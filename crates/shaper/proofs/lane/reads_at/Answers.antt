@@ -22,4 +22,8 @@ returns-clause-value c =
       given c.control-control1.ensures,
       row_read _ _ _ _ _ (span_in _ _ c.requires.driven.spot.row),
       ← c.place-span.ensures,
+      ← c.new.ensures.slot,
+      ← c.new.ensures.control,
+      ← c.new-2.ensures.slot,
+      ← c.new-2.ensures.control,
     ) c.reads_of.ensures.value

@@ -6,4 +6,11 @@ use Rattle.shaper.proofs.lane.shape_at.Goals as goal
 pub returns : goal.returns
 unfolding shaped_at control0_at control1_at
 returns c =
-    rw (given c.control-control0.ensures, given c.control-control1.ensures) c.shape_of.ensures
+    rw (
+      given c.control-control0.ensures,
+      given c.control-control1.ensures,
+      ← c.new.ensures.slot,
+      ← c.new.ensures.control,
+      ← c.new-2.ensures.slot,
+      ← c.new-2.ensures.control,
+    ) c.shape_of.ensures

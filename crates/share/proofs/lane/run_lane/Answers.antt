@@ -15,35 +15,33 @@ had c = let a = c.args in buffers a.output.now a.work.now a.pairs.now a.fm.now a
 
 pub load_voice-v-requires : goal.load_voice-v-requires
 load_voice-v-requires c =
-    state_held {w = had (goal.at.load_voice-v-requires c).Start} c.requires.limits c.requires.writable
+    state_held {w = had (goal.at.load_voice-v-requires c).Start} c.args.part.limits c.requires.writable
 
 pub render_lane-end-requires : goal.render_lane-end-requires
 render_lane-end-requires c =
     let p = c.requires in record {
-      inside = p.inside;
-      limits = p.limits;
       readable = cut_readable (lends (goal.at.render_lane-end-requires c).Start) p.readable;
       writable = p.writable.work;
     }
 
 pub store_voice-requires : goal.store_voice-requires
 store_voice-requires c =
-    state_held {w = had (goal.at.store_voice-requires c).Start} c.requires.limits c.requires.writable
+    state_held {w = had (goal.at.store_voice-requires c).Start} c.args.part.limits c.requires.writable
 
 pub decimate_lane-requires : goal.decimate_lane-requires
 decimate_lane-requires c =
     let p = c.requires in
-    stages_taken {w = had (goal.at.decimate_lane-requires c).Start} p.limits p.writable _ _ c.stages_of.ensures c.render_lane-end.ensures.size
+    stages_taken {w = had (goal.at.decimate_lane-requires c).Start} c.args.part.limits p.writable _ _ c.stages_of.ensures c.render_lane-end.ensures.size
 
 pub copy_lane-requires : goal.copy_lane-requires
 copy_lane-requires c =
     let p = c.requires in
-    rows_copied {w = had (goal.at.copy_lane-requires c).Start} p.limits p.writable _
+    rows_copied {w = had (goal.at.copy_lane-requires c).Start} c.args.part.limits p.writable _
     (c.decimate_lane.auto.buffer ∙ c.render_lane-end.ensures.size)
 
 pub returns : goal.returns
 returns c =
-    shared _ _ (lends (goal.at.returns c).Start) _ _ _ _ _ _ _ _ _ _ _ _ _ _ _ _ _ c.requires.inside c.load_voice-v.ensures
+    shared _ _ (lends (goal.at.returns c).Start) _ _ _ _ _ _ _ _ _ _ _ _ _ _ _ _ _ c.args.part.inside c.load_voice-v.ensures
     c.render_lane-end.ensures c.store_voice.ensures c.stages_of.ensures c.decimate_lane.ensures c.copy_lane.ensures
     (record {
       output = c.copy_lane.auto.output;
