@@ -36,6 +36,7 @@ impl Filter {
         ensures { result ≡ settled_to (filter_with self.mode self.g self.k) picture.now silent 15 }
     {
         let mut state = Svf { ic1: 0.0, ic2: 0.0 };
+        // So many times the same: nothing is counted through.
         for _ in 0..PASSES {
             state = self.pass(state, picture);
         }

@@ -42,6 +42,7 @@ fn render_hosts(
     let count = part.range.count as usize;
     let scale = fm_scale(part.block.rate, s.factor);
     let mut state = v;
+    // Over a range: the counter is the host frame's number, which the frame is told, and no place in a slice.
     for k in 0..count {
         state = render_host(
             s,

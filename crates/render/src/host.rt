@@ -91,6 +91,7 @@ pub fn render_host(
     let n = s.lanes as usize;
     let h = load_host(s, lane, host, still0, still1, rows);
     let mut state = v;
+    // Over a range: a rendered frame goes by its number between two host frames.
     for sub in 0..s.factor {
         let out = frame_at(s, scale, lane, host, sub, h, state, rows, curve, cycle);
         work[place(row + sub as usize, n, lane)] = out.sample;

@@ -91,7 +91,8 @@ fn zero_square(x: f32) -> f32
     a * a * a * (1.0 / 3.0) + beyond(x, z)
 }
 
-// The halves of the curve, each by its own integral.
+// The halves of the curve, each by its own integral. With the curve's function it shares the two halves alone: one
+// over a closure would be given all that they say.
 #[tactic(auto, unfolding(crate::specs::Integral::asymmetric_integral), using(floats::specs::Steps::steps))]
 fn asymmetric(x: f32) -> f32
     ensures { result ≡ asymmetric_integral x }
@@ -141,7 +142,7 @@ fn soft_saturate(x: f32) -> f32
     a - ln(1.0 + a)
 }
 
-// The integral of `curve` from 0 to `x`, arm for arm.
+// The integral of `curve` from 0 to `x`, arm for arm, as `curve` has them.
 #[tactic(auto, unfolding(crate::specs::Integral::integral_of, modes::specs::Choice::case_of))]
 pub fn integral(numbers: Numbers, mode: u32, x: f32) -> f32
     ensures { result ≡ integral_of numbers.sin mode x }
