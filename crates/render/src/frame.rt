@@ -111,18 +111,18 @@ pub fn frame_at(
     sub: u32,
     h: HostFrame,
     v: Voice,
-    rows: &Rows<'_>,
+    rows: Rows<'_>,
     curve: Curve<'_>,
     cycle: Cycle<'_>,
 ) -> Stepped
     requires powered { Powered s h }
     requires framed { Framed s lane host sub
-        (length rows.now.controls.source0.now) (length rows.now.controls.source1.now)
-        (length rows.now.words.now) (length rows.now.steps.now) }
+        (length rows.controls.source0.now) (length rows.controls.source1.now)
+        (length rows.words.now) (length rows.steps.now) }
     ensures { result ≡ frame_at s scale h
-        (lent_of s.lanes lane s.frames rows.now.controls.source0.now) (lent_of s.lanes lane s.frames rows.now.controls.source1.now)
+        (lent_of s.lanes lane s.frames rows.entry.controls.source0.now) (lent_of s.lanes lane s.frames rows.entry.controls.source1.now)
         curve.entry.values.now cycle.entry.samples.now
-        (column 0 s.lanes lane (s.frames * s.factor) rows.now.words.now) (column 0 s.lanes lane (s.frames * s.factor) rows.now.steps.now)
+        (column 0 s.lanes lane (s.frames * s.factor) rows.entry.words.now) (column 0 s.lanes lane (s.frames * s.factor) rows.entry.steps.now)
         host sub v }
 {
     let factor = s.factor;

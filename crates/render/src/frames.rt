@@ -23,16 +23,16 @@ fn render_hosts(
     still0: Drive,
     still1: Drive,
     v: Voice,
-    rows: &Rows<'_>,
+    rows: Rows<'_>,
     curve: Curve<'_>,
     cycle: Cycle<'_>,
     work: &mut [f32],
 ) -> Voice
-    requires stills { Stills part.block.shaper part.lane rows.now.controls.base0.now rows.now.controls.base1.now still0 still1 }
-    requires readable { Readable part.block.shaper (rows_with rows.now curve.values.now cycle.samples.now) }
+    requires stills { Stills part.block.shaper part.lane rows.controls.base0.now rows.controls.base1.now still0 still1 }
+    requires readable { Readable part.block.shaper (rows_with rows curve.values.now cycle.samples.now) }
     requires writable { rendered_length part.range.count part.block.shaper.factor part.block.shaper.lanes ≤ length work.old }
     ensures { Frames part.block
-        (inputs_in part.block.shaper (rows_with rows.now curve.entry.values.now cycle.entry.samples.now) part.lane)
+        (inputs_in part.block.shaper (rows_with rows.entry curve.entry.values.now cycle.entry.samples.now) part.lane)
         part.lane (first_frame part.block part.range) 0 (frame_count part.block part.range) v result work.old work.new }
 {
     let s = part.block.shaper;
@@ -66,15 +66,15 @@ fn render_hosts(
 pub fn render_lane(
     part: LaneRange,
     v: Voice,
-    rows: &Rows<'_>,
+    rows: Rows<'_>,
     curve: Curve<'_>,
     cycle: Cycle<'_>,
     work: &mut [f32],
 ) -> Voice
-    requires readable { Readable part.block.shaper (rows_with rows.now curve.values.now cycle.samples.now) }
+    requires readable { Readable part.block.shaper (rows_with rows curve.values.now cycle.samples.now) }
     requires writable { rendered_length part.range.count part.block.shaper.factor part.block.shaper.lanes ≤ length work.old }
     ensures { Frames part.block
-        (inputs_in part.block.shaper (rows_with rows.now curve.entry.values.now cycle.entry.samples.now) part.lane)
+        (inputs_in part.block.shaper (rows_with rows.entry curve.entry.values.now cycle.entry.samples.now) part.lane)
         part.lane (first_frame part.block part.range) 0 (frame_count part.block part.range) v result work.old work.new }
 {
     let s = part.block.shaper;

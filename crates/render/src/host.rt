@@ -27,15 +27,15 @@ fn load_host(
     host: usize,
     still0: Drive,
     still1: Drive,
-    rows: &Rows<'_>,
+    rows: Rows<'_>,
 ) -> HostFrame
-    requires stills { Stills s lane rows.now.controls.base0.now rows.now.controls.base1.now still0 still1 }
+    requires stills { Stills s lane rows.controls.base0.now rows.controls.base1.now still0 still1 }
     requires hosted { Hosted s lane host
-        (length rows.now.controls.base0.now) (length rows.now.controls.base1.now)
-        (length rows.now.controls.mod0.now) (length rows.now.controls.mod1.now) (length rows.now.inner.now) }
-    ensures { result ≡ host_at s (get_or rows.now.controls.base0.now lane nan) (get_or rows.now.controls.base1.now lane nan)
-        (lent_of s.lanes lane s.frames rows.now.controls.mod0.now) (lent_of s.lanes lane s.frames rows.now.controls.mod1.now)
-        (column nan s.lanes lane (spans_of s.frames) rows.now.inner.now) host }
+        (length rows.controls.base0.now) (length rows.controls.base1.now)
+        (length rows.controls.mod0.now) (length rows.controls.mod1.now) (length rows.inner.now) }
+    ensures { result ≡ host_at s (get_or rows.entry.controls.base0.now lane nan) (get_or rows.entry.controls.base1.now lane nan)
+        (lent_of s.lanes lane s.frames rows.entry.controls.mod0.now) (lent_of s.lanes lane s.frames rows.entry.controls.mod1.now)
+        (column nan s.lanes lane (spans_of s.frames) rows.entry.inner.now) host }
 {
     let at = LaneFrame {
         lane: Lane {
@@ -76,16 +76,16 @@ pub fn render_host(
     still0: Drive,
     still1: Drive,
     v: Voice,
-    rows: &Rows<'_>,
+    rows: Rows<'_>,
     curve: Curve<'_>,
     cycle: Cycle<'_>,
     work: &mut [f32],
 ) -> Voice
     requires room { Room s lane host row (length work.old) }
-    requires stills { Stills s lane rows.now.controls.base0.now rows.now.controls.base1.now still0 still1 }
-    requires readable { Readable s (rows_with rows.now curve.values.now cycle.samples.now) }
+    requires stills { Stills s lane rows.controls.base0.now rows.controls.base1.now still0 still1 }
+    requires readable { Readable s (rows_with rows curve.values.now cycle.samples.now) }
     ensures { Ran s scale
-        (inputs_in s (rows_with rows.now curve.entry.values.now cycle.entry.samples.now) lane)
+        (inputs_in s (rows_with rows.entry curve.entry.values.now cycle.entry.samples.now) lane)
         lane (host * s.factor) row s.factor v result work.old work.new }
 {
     let n = s.lanes as usize;

@@ -63,7 +63,7 @@ pub fn run_lane(
         samples: &lent.cycle[..CYCLE_LENGTH],
     };
     let v = load_voice(at, pairs, fm, last);
-    let end = render_lane(part, v, &lent.rows, curve, cycle, work);
+    let end = render_lane(part, v, lent.rows, curve, cycle, work);
     store_voice(at, end, pairs, fm, last);
     decimate_lane(&part.block.designs, stages_of(s.factor), count, at, work, dec);
     copy_lane(first, count, at, work, output);

@@ -10,7 +10,7 @@ use Rattle.render.proofs.frames.render_hosts.Goals as goal
 use Rattle.render.proofs.frames.render_hosts.Goals.{At-loop-k}
 
 abbrev lends : At-loop-k → Lent
-lends c = let a = c.args in rows_with a.rows.now a.curve.values.now a.cycle.samples.now
+lends c = let a = c.args in rows_with a.rows a.curve.values.now a.cycle.samples.now
 
 -- the host frames so far, of this block
 so_far : (c : At-loop-k)

@@ -8,7 +8,7 @@ use Rattle.render.proofs.frames.render_lane.Goals as goal
 use Rattle.render.proofs.frames.render_lane.Goals.{Start}
 
 abbrev lends : Start → Lent
-lends c = let a = c.args in rows_with a.rows.now a.curve.values.now a.cycle.samples.now
+lends c = let a = c.args in rows_with a.rows a.curve.values.now a.cycle.samples.now
 
 pub read_lane-requires : goal.read_lane-requires
 read_lane-requires c =

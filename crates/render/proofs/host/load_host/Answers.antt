@@ -9,7 +9,7 @@ use Rattle.render.proofs.host.load_host.Goals as goal
 
 pub bounds-rows-place : goal.bounds-rows-place
 bounds-rows-place c =
-    subst (λ (i : ℕ). i < length c.args.rows.now.inner.now) (sym c.place.ensures) (slope_in c.requires.hosted)
+    subst (λ (i : ℕ). i < length c.args.rows.inner.now) (sym c.place.ensures) (slope_in c.requires.hosted)
 
 pub returns : goal.returns
 unfolding host_at

@@ -10,7 +10,7 @@ use Rattle.render.proofs.host.render_host.Goals as goal
 use Rattle.render.proofs.host.render_host.Goals.{Start}
 
 abbrev lends : Start → Lent
-lends c = let a = c.args in rows_with a.rows.now a.curve.values.now a.cycle.samples.now
+lends c = let a = c.args in rows_with a.rows a.curve.values.now a.cycle.samples.now
 
 pub loop-sub-init : goal.loop-sub-init
 loop-sub-init c = (omega arith, refl, refl, ran_none _ _ (lends (goal.at.loop-sub-init c).Start) _ _ _ _ _)
