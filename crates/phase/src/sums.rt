@@ -39,7 +39,9 @@ impl<'a> Reading<'a> {
         }
     }
 
-    // The products of a map's reads.
+    // The products of a map's reads. Inlined at every call, as the two sums below: left functions, they are handed
+    // what is read in memory, and a plain read of a picture takes a third longer.
+    #[inline(always)]
     #[tactic(auto, unfolding(crate::specs::Sums::products_of))]
     fn products(self, b: Branches) -> f32
         ensures { result ≡ products_of self.entry.cycle.samples.now self.entry.offset b }
@@ -49,6 +51,7 @@ impl<'a> Reading<'a> {
 
     // The reads of one map; the gains don't count if the read that it was given is `plain` and it makes
     // one with no gain of its own.
+    #[inline(always)]
     #[tactic(auto, unfolding(crate::specs::Sums::sum_one), using(floats::specs::Steps::by_taken, floats::specs::Steps::by_left))]
     fn sum_one(self, plain: bool, b: Branches) -> f32
         ensures { result ≡ sum_one self.entry.cycle.samples.now self.entry.offset plain b }
@@ -60,6 +63,7 @@ impl<'a> Reading<'a> {
     }
 
     // The reads of two maps, those of `a` first.
+    #[inline(always)]
     #[tactic(auto, unfolding(crate::specs::Sums::sum_two))]
     fn sum_two(self, a: Branches, b: Branches) -> f32
         ensures { result ≡ sum_two self.entry.cycle.samples.now self.entry.offset a b }
