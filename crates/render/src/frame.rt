@@ -33,7 +33,9 @@ fn full_frame(
     ensures { result ≡ frame_of s scale curve.entry.values.now cycle.entry.samples.now slot0.control slot1.control inner word step v }
 {
     let Settings {
-        factor, numbers, ..
+        factor,
+        numbers,
+        ..
     } = s;
     let tables = Tables { numbers, curve };
     let raw = sum_of(

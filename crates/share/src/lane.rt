@@ -65,6 +65,13 @@ pub fn run_lane(
     let v = load_voice(at, pairs, fm, last);
     let end = render_lane(part, v, lent.rows, curve, cycle, work);
     store_voice(at, end, pairs, fm, last);
-    decimate_lane(&part.block.designs, stages_of(s.factor), count, at, work, dec);
+    decimate_lane(
+        &part.block.designs,
+        stages_of(s.factor),
+        count,
+        at,
+        work,
+        dec,
+    );
     copy_lane(first, count, at, work, output);
 }

@@ -1,6 +1,4 @@
 -- `run::block_run` meets its contract: one test, and what is accepted is run.
-use mathlib.Core.Path.{◌≡◌}
-use Prim.Native.Nat.{ℕ}
 use Rattle.render.specs.Lane.{Lent}
 use Rattle.render.specs.Slices.{lent_lists}
 use Rattle.share.specs.Share.{Buffers, buffers}

@@ -4,7 +4,6 @@ use native.Mathlib.Omega.{arith}
 use Rattle.render.specs.Lane.{Lent, inputs_in}
 use Rattle.render.specs.Slices.{rows_with}
 use Rattle.render.specs.Frames.{Frames}
-use Rattle.render.proofs.InputLaws.{host_rows, host_room}
 use Rattle.render.proofs.FrameLaws.{hosts_none, hosts_more, hosts_done}
 use Rattle.render.proofs.frames.render_hosts.Goals as goal
 use Rattle.render.proofs.frames.render_hosts.Goals.{At-loop-k}
@@ -30,18 +29,3 @@ pub returns : goal.returns
 returns c =
     let a = c.args in
     hosts_done _ _ _ _ _ c.loop-k.k a.part.range.count _ _ _ _ (omega arith) c.loop-k.invariant.1 a.part.block.rate a.part.block.designs c.fm_scale-scale.ensures
-
-pub overflow_mul-k : goal.overflow_mul-k
-overflow_mul-k c = omega (arith, host_rows c.args.part.limits c.loop-k.k c.loop-k-test.true)
-
-pub render_host-state-requires : goal.render_host-state-requires
-render_host-state-requires c =
-    let p = c.requires in
-    let part = c.args.part in record {
-      room = host_room part.limits c.loop-k.k c.loop-k-test.true part.inside (rw (so_far (goal.at.render_host-state-requires c).At-loop-k).size p.writable);
-      stills = p.stills;
-      readable = p.readable;
-    }
-
-pub shape_of-work : goal.shape_of-work
-shape_of-work c = (so_far (goal.at.shape_of-work c).At-loop-k).size

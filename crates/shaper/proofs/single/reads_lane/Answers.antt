@@ -1,6 +1,5 @@
 -- `single::reads_lane` meets its contract.
 use native.Mathlib.Omega.{arith}
-use Rattle.limits.specs.Refusals.{number_of}
 use Rattle.shaper.proofs.RefusalLaws.{reads_passed, driven_of_lem, fed_of}
 use Rattle.shaper.proofs.CallLaws.{reads_turned_down, reads_done}
 use Rattle.shaper.proofs.single.reads_lane.Goals as goal

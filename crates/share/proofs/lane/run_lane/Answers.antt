@@ -3,7 +3,7 @@ use mathlib.Core.Path.{◌∙◌}
 use Rattle.render.specs.Lane.{Lent}
 use Rattle.render.specs.Slices.{lent_lists}
 use Rattle.share.specs.Share.{Buffers, buffers}
-use Rattle.share.proofs.ShareLaws.{cut_readable, state_held, stages_taken, rows_copied, shared}
+use Rattle.share.proofs.ShareLaws.{rows_copied, shared}
 use Rattle.share.proofs.lane.run_lane.Goals as goal
 use Rattle.share.proofs.lane.run_lane.Goals.{Start}
 
@@ -12,26 +12,6 @@ lends c = lent_lists c.args.lent.now
 
 abbrev had : Start → Buffers
 had c = let a = c.args in buffers a.output.now a.work.now a.pairs.now a.fm.now a.last.now a.dec.now
-
-pub load_voice-v-requires : goal.load_voice-v-requires
-load_voice-v-requires c =
-    state_held {w = had (goal.at.load_voice-v-requires c).Start} c.args.part.limits c.requires.writable
-
-pub render_lane-end-requires : goal.render_lane-end-requires
-render_lane-end-requires c =
-    let p = c.requires in record {
-      readable = cut_readable (lends (goal.at.render_lane-end-requires c).Start) p.readable;
-      writable = p.writable.work;
-    }
-
-pub store_voice-requires : goal.store_voice-requires
-store_voice-requires c =
-    state_held {w = had (goal.at.store_voice-requires c).Start} c.args.part.limits c.requires.writable
-
-pub decimate_lane-requires : goal.decimate_lane-requires
-decimate_lane-requires c =
-    let p = c.requires in
-    stages_taken {w = had (goal.at.decimate_lane-requires c).Start} c.args.part.limits p.writable _ _ c.stages_of.ensures c.render_lane-end.ensures.size
 
 pub copy_lane-requires : goal.copy_lane-requires
 copy_lane-requires c =
