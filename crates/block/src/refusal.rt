@@ -139,40 +139,50 @@ fn check_numbers(call: CallNumbers) -> Result<(), Refusal>
     ])
 }
 
-// Line 7 but for coefficients and sine and arctangent numbers.
-fn buffers_short(call: CallNumbers, l: ReadLengths) -> bool
-    requires { (call.frames ≤ 4096) × (call.factor ≤ 8) × (call.lanes ≤ 64) }
-    ensures { result ≡ buffers_short call l }
-{
-    let controls = l.controls;
-    let rows = rendered_length(call.frames, call.factor, call.lanes);
-    controls_short(call.frames, call.lanes, controls)
-        | short(CURVE_LENGTH, l.curve)
-        | short(CYCLE_LENGTH, l.cycle)
-        | short(rows, l.words)
-        | short(rows, l.steps)
-        | short(span_length(call.frames, call.lanes), l.inner)
+// A call that passes lines 1 to 6, so that the lengths that it asks for are no large numbers.
+#[derive(Clone, Copy)]
+struct Numbered {
+    call: CallNumbers,
+    ghost block: { call.frames ≤ 4096 },
+    ghost rendered: { call.factor ≤ 8 },
+    ghost few: { call.lanes ≤ 64 },
+    ghost range: { call.count ≤ 4096 },
 }
 
-// Line 7.
-fn reads_short(call: CallNumbers, l: ReadLengths) -> bool
-    requires { (call.frames ≤ 4096) × (call.factor ≤ 8) × (call.lanes ≤ 64) }
-    ensures { result ≡ reads_short call l }
-{
-    buffers_short(call, l) | short(COEFS_LENGTH, l.coefs) | short(NUMBERS_LENGTH, l.numbers)
-}
+impl Numbered {
+    // Line 7 but for coefficients and sine and arctangent numbers.
+    fn buffers_short(self, l: ReadLengths) -> bool
+        ensures { result ≡ buffers_short self.call l }
+    {
+        let call = self.call;
+        let rows = rendered_length(call.frames, call.factor, call.lanes);
+        controls_short(call.frames, call.lanes, l.controls)
+            | short(CURVE_LENGTH, l.curve)
+            | short(CYCLE_LENGTH, l.cycle)
+            | short(rows, l.words)
+            | short(rows, l.steps)
+            | short(span_length(call.frames, call.lanes), l.inner)
+    }
 
-// Line 8.
-fn writes_short(call: CallNumbers, l: WriteLengths) -> bool
-    requires { (call.frames ≤ 4096) × (call.factor ≤ 8) × (call.lanes ≤ 64) × (call.count ≤ 4096) }
-    ensures { result ≡ writes_short call l }
-{
-    short(host_length(call.frames, call.lanes), l.output)
-        | short(rendered_length(call.count, call.factor, call.lanes), l.work)
-        | short(pairs_length(call.lanes), l.pairs)
-        | short(carry_length(call.lanes), l.fm)
-        | short(last_length(call.lanes), l.last)
-        | short(state_length(call.lanes), l.dec)
+    // Line 7.
+    fn reads_short(self, l: ReadLengths) -> bool
+        ensures { result ≡ reads_short self.call l }
+    {
+        self.buffers_short(l) | short(COEFS_LENGTH, l.coefs) | short(NUMBERS_LENGTH, l.numbers)
+    }
+
+    // Line 8.
+    fn writes_short(self, l: WriteLengths) -> bool
+        ensures { result ≡ writes_short self.call l }
+    {
+        let call = self.call;
+        short(host_length(call.frames, call.lanes), l.output)
+            | short(rendered_length(call.count, call.factor, call.lanes), l.work)
+            | short(pairs_length(call.lanes), l.pairs)
+            | short(carry_length(call.lanes), l.fm)
+            | short(last_length(call.lanes), l.last)
+            | short(state_length(call.lanes), l.dec)
+    }
 }
 
 // A block run, by the first line that holds.
@@ -180,8 +190,9 @@ pub fn check(call: CallNumbers, reads: ReadLengths, writes: WriteLengths) -> Res
     ensures { number_of result ≡ block_refusal call reads writes }
 {
     check_numbers(call)?;
+    let numbered = Numbered { call };
     check_lines(&[
-        (reads_short(call, reads), Refusal::ShortRead),
-        (writes_short(call, writes), Refusal::ShortWrite),
+        (numbered.reads_short(reads), Refusal::ShortRead),
+        (numbered.writes_short(writes), Refusal::ShortWrite),
     ])
 }

@@ -14,7 +14,8 @@ use shaper::Range;
 use share::run_lane;
 
 // The lanes of an accepted call, a run's or a lane's: from ≤ lane < to, one after another. No lane looks at
-// another's numbers.
+// another's numbers. Why the six slices that are written are no struct, here and in `block_run`, is told at
+// share's `run_lane`.
 pub fn run_lanes(
     b: BlockSettings,
     r: Range,
@@ -34,6 +35,7 @@ pub fn run_lanes(
         (buffers output.old work.old pairs.old fm.old last.old dec.old)
         (buffers output.new work.new pairs.new fm.new last.new dec.new) }
 {
+    // A lane is its number: its cells are no part of a slice to go through.
     for lane in from as usize..to as usize {
         let part = LaneRange {
             block: b,

@@ -1,4 +1,4 @@
-// The decimation.
+// The decimation. The parameters are C's, one by one.
 ghost use Rattle.std.specs.Prelude.{length, slice_index};
 ghost use Rattle.limits.specs.Refusals.{answer_of};
 ghost use Rattle.halfband.specs.Floats.{designs_of};

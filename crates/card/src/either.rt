@@ -13,7 +13,8 @@ use limits::Refusal;
 use shaper::Range;
 
 // Where a lane is given that lane's run, else the block run; an accepted call's frames. Coefficients and sine and
-// arctangent numbers come on slices, which are read once they are known to be long enough.
+// arctangent numbers come on slices, which are read once they are known to be long enough. Why the six slices that are
+// written are no struct is told at share's `run_lane`.
 pub fn run_either(
     lane: Option<u32>,
     call: CallNumbers,

@@ -1,4 +1,4 @@
-// One lane's run.
+// One lane's run. The parameters are C's, one by one.
 ghost use Rattle.std.specs.Prelude.{length};
 ghost use Rattle.render.specs.Promises.{lent};
 ghost use Rattle.share.specs.Share.{buffers};

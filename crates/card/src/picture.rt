@@ -1,4 +1,4 @@
-// The picture on a panel.
+// The picture on a panel. The parameters are C's, one by one.
 ghost use Rattle.std.specs.Prelude.{length};
 ghost use Rattle.block.specs.Numbers.{numbers_of};
 ghost use Rattle.limits.specs.Refusals.{answer_of};

@@ -1,4 +1,4 @@
-// What a block needs.
+// What a block needs. The parameters are C's, one by one.
 ghost use Rattle.std.specs.Prelude.{◌≡◌};
 ghost use Rattle.plan.specs.Plan.{block_numbers, plan_of};
 

@@ -1,4 +1,4 @@
-// The spans of a block.
+// The spans of a block. The parameters are C's, one by one.
 ghost use Rattle.controls.specs.Controls.{control_buffers};
 ghost use Rattle.spans.specs.Prepared.{spans, Prepared};
 ghost use Rattle.spans.specs.Asked.{Faster};

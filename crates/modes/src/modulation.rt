@@ -5,7 +5,8 @@ ghost use Rattle.modes.specs.Table.{source_of, fm_type_of, modulated_of};
 use crate::facts::{FmType, Modulated, Source};
 use limits::Refusal;
 
-// The source that the mode reads at audio rate, if it's an inter-oscillator mode.
+// The source that the mode reads at audio rate, if it's an inter-oscillator mode. A table by C's number: the arms are
+// values, no steps to run.
 pub fn source(mode: u32) -> Result<Option<Source>, Refusal>
     ensures { result ≡ source_of mode }
 {
@@ -22,7 +23,7 @@ pub fn source(mode: u32) -> Result<Option<Source>, Refusal>
     }
 }
 
-// The FM type that an FM mode modulates with, if it's one.
+// The FM type that an FM mode modulates with, if it's one. A table too: values, no steps.
 pub fn fm_type(mode: u32) -> Result<Option<FmType>, Refusal>
     ensures { result ≡ fm_type_of mode }
 {
@@ -35,7 +36,7 @@ pub fn fm_type(mode: u32) -> Result<Option<FmType>, Refusal>
     }
 }
 
-// What the mode does with its source, if it reads one.
+// What the mode does with its source, if it reads one. A table too: values, no steps.
 pub fn modulated(mode: u32) -> Result<Option<Modulated>, Refusal>
     ensures { result ≡ modulated_of mode }
 {

@@ -219,6 +219,7 @@ const ALL: [u32; 70] = [
 ];
 
 // Every mode in the order of the menu. Its contract holds the names to the table.
+#[tactic(auto, unfolding(crate::specs::Table::numbers))]
 pub fn all() -> [u32; 70]
     ensures { result ≡ numbers }
 {

@@ -5,7 +5,7 @@ ghost use Rattle.modes.specs.Table.{stage_of, oversampled_of, distortion_of, is_
 use crate::facts::Stage;
 use limits::Refusal;
 
-// The stage that the mode acts in.
+// The stage that the mode acts in. A table by C's number: the arms are values, no steps to run.
 pub fn stage(mode: u32) -> Result<Stage, Refusal>
     ensures { result ≡ stage_of mode }
 {

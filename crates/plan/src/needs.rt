@@ -21,9 +21,9 @@ pub struct BlockNumbers {
     pub count2: u32,
 }
 
-// The number of a refusal, 0 where there is none; the block's frames; the floats of work, decimator state,
-// filter pairs, FM carry and `last`; the most list reads; the half-band section steps of the active lanes.
-// include/shaper.h has the same fields in this order; a further size goes to the end.
+// For C, which has no `Result`: the number of a refusal, 0 where there is none; the block's frames; the floats of
+// work, decimator state, filter pairs, FM carry and `last`; the most list reads; the half-band section steps of the
+// active lanes. include/shaper.h has the same fields in this order; a further size goes to the end.
 #[repr(C)]
 #[derive(Clone, Copy)]
 pub struct Plan {
@@ -52,36 +52,69 @@ fn check(b: BlockNumbers) -> Result<(), Refusal>
     check_numbers(call, [b.count0, b.count1, b.count2])
 }
 
-// One lane's section steps. The last stage, of design 0, makes each frame once, the one before it twice.
-fn lane_steps(factor: u32, frames: u32, count0: u32, count1: u32, count2: u32) -> u32
-    requires { (frames ≤ 4096) × (count0 ≤ 12) × (count1 ≤ 12) × (count2 ≤ 12) }
-    ensures value { result ≡ lane_steps factor frames count0 count1 count2 }
-    ensures upper_bound { result ≤ 344064 }
-{
-    match factor {
-        2 => count0 * frames,
-        4 => (count0 + 2 * count1) * frames,
-        8 => (count0 + 2 * count1 + 4 * count2) * frames,
-        _ => 0,
+// The numbers of a block that is not turned down.
+#[derive(Clone, Copy)]
+struct Accepted {
+    block: BlockNumbers,
+    ghost within: { Within block },
+}
+
+impl Accepted {
+    // One lane's section steps. The last stage, of design 0, makes each frame once, the one before it twice.
+    fn lane_steps(self) -> u32
+        ensures value { result ≡ lane_steps self.block.factor self.block.frames self.block.count0 self.block.count1 self.block.count2 }
+        ensures upper_bound { result ≤ 344064 }
+    {
+        let BlockNumbers {
+            factor,
+            frames,
+            count0,
+            count1,
+            count2,
+            ..
+        } = self.block;
+        match factor {
+            2 => count0 * frames,
+            4 => (count0 + 2 * count1) * frames,
+            8 => (count0 + 2 * count1 + 4 * count2) * frames,
+            _ => 0,
+        }
     }
-}
 
-// MAX_READS for each list, and a list for each rendered frame of each active lane.
-#[tactic(auto, unfolding(crate::specs::Plan::most_reads))]
-fn most_reads(b: BlockNumbers) -> u32
-    requires { Within b }
-    ensures { result ≡ most_reads b }
-{
-    MAX_READS as u32 * (b.active * (b.frames * b.factor))
-}
+    // The steps of all active lanes.
+    #[tactic(auto, unfolding(crate::specs::Plan::steps_of))]
+    fn section_steps(self) -> u32
+        ensures { result ≡ steps_of self.block }
+    {
+        self.block.active * self.lane_steps()
+    }
 
-// The steps of all active lanes.
-#[tactic(auto, unfolding(crate::specs::Plan::steps_of))]
-fn section_steps(b: BlockNumbers) -> u32
-    requires { Within b }
-    ensures { result ≡ steps_of b }
-{
-    b.active * lane_steps(b.factor, b.frames, b.count0, b.count1, b.count2)
+    // MAX_READS for each list, and a list for each rendered frame of each active lane.
+    #[tactic(auto, unfolding(crate::specs::Plan::most_reads))]
+    fn most_reads(self) -> u32
+        ensures { result ≡ most_reads self.block }
+    {
+        let b = self.block;
+        MAX_READS as u32 * (b.active * (b.frames * b.factor))
+    }
+
+    #[tactic(auto, unfolding(crate::specs::Plan::needed))]
+    fn needs(self) -> Plan
+        ensures { result ≡ needed self.block }
+    {
+        let b = self.block;
+        Plan {
+            number: 0,
+            frames: b.frames,
+            work: rendered_length(b.frames, b.factor, b.lanes) as u32,
+            state: state_length(b.lanes) as u32,
+            pairs: pairs_length(b.lanes) as u32,
+            fm: carry_length(b.lanes) as u32,
+            last: last_length(b.lanes) as u32,
+            reads: self.most_reads(),
+            steps: self.section_steps(),
+        }
+    }
 }
 
 // A refusal: its number, and zeros.
@@ -102,25 +135,6 @@ fn refusal(number: u32) -> Plan
     }
 }
 
-// The numbers of a block that is not turned down.
-#[tactic(auto, unfolding(crate::specs::Plan::needed))]
-fn needs(b: BlockNumbers) -> Plan
-    requires { Within b }
-    ensures { result ≡ needed b }
-{
-    Plan {
-        number: 0,
-        frames: b.frames,
-        work: rendered_length(b.frames, b.factor, b.lanes) as u32,
-        state: state_length(b.lanes) as u32,
-        pairs: pairs_length(b.lanes) as u32,
-        fm: carry_length(b.lanes) as u32,
-        last: last_length(b.lanes) as u32,
-        reads: most_reads(b),
-        steps: section_steps(b),
-    }
-}
-
 // What a block of these numbers needs, or why it is turned down. `Planned` and `TurnedDown` (specs/Planned, proved in
 // proofs/Planned) have what the answer means for the block's runs.
 #[tactic(auto, using(crate::proofs::Passed::within, limits::proofs::LineLaws::handed_on), unfolding(crate::specs::Plan::plan_of, limits::specs::Refusals::number_of))]
@@ -129,7 +143,7 @@ pub fn checked_plan(b: BlockNumbers) -> Result<Plan, Refusal>
     ensures number { number_of result ≡ plan_refusal b }
 {
     check(b)?;
-    Ok(needs(b))
+    Ok(Accepted { block: b }.needs())
 }
 
 // The same for C: of a refusal its number, and zeros.

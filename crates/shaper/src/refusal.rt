@@ -1,7 +1,8 @@
 // When the calls about a single rendered frame are turned down.
-ghost use Rattle.std.specs.Prelude.{◌≡◌};
+ghost use Rattle.std.specs.Prelude.{◌≡◌, ◌||◌};
+ghost use Rattle.limits.specs.Lengths.{last_length, shorter};
 ghost use Rattle.limits.specs.Refusals.{number_of};
-ghost use Rattle.shaper.specs.Refusal.{reads_short, carry_short, pairs_short, reads_refusal, sample_refusal};
+ghost use Rattle.shaper.specs.Refusal.{reads_short, reads_refusal, sample_refusal};
 
 use crate::settings::{Range, Settings};
 use limits::{
@@ -18,21 +19,16 @@ fn reads_short(s: Settings, l: ControlLengths, curve: usize, inner: usize) -> bo
         | short(span_length(s.frames, s.lanes), inner)
 }
 
-// Line 8 of a read list.
-fn carry_short(lanes: u32, fm: usize, last: usize) -> bool
-    ensures { result ≡ carry_short lanes fm last }
+// Line 8: `last`, and the FM carry or the filter pairs, which are `held` long and should be `whole`.
+fn state_short(whole: usize, held: usize, lanes: u32, last: usize) -> bool
+    ensures { result ≡ (shorter whole held || shorter (last_length lanes) last) }
 {
-    short(carry_length(lanes), fm) | short(last_length(lanes), last)
+    short(whole, held) | short(last_length(lanes), last)
 }
 
-// Line 8 of a sample.
-fn pairs_short(lanes: u32, pairs: usize, last: usize) -> bool
-    ensures { result ≡ pairs_short lanes pairs last }
-{
-    short(pairs_length(lanes), pairs) | short(last_length(lanes), last)
-}
-
-// A read list. The last four arguments are lengths.
+// A read list. The last four arguments are lengths. Here, in `check_sample` and in the calls that they turn down, the
+// numbers stay one by one, as the lines of the table ask for them and as C's tests of the calls give them: a struct
+// would be made at each call, to be taken apart at once.
 #[tactic(auto, unfolding(crate::specs::Refusal::reads_refusal, limits::specs::Lines::first_of, limits::specs::Refusals::line_of))]
 pub fn check_reads(
     s: Settings,
@@ -59,7 +55,10 @@ pub fn check_reads(
         ),
         (rate_bad(rate), Refusal::Rate),
         (reads_short(s, l, curve, inner), Refusal::ShortRead),
-        (carry_short(s.lanes, fm, last), Refusal::ShortWrite),
+        (
+            state_short(carry_length(s.lanes), fm, s.lanes, last),
+            Refusal::ShortWrite,
+        ),
     ])
 }
 
@@ -86,6 +85,9 @@ pub fn check_sample(
             Refusal::Frames,
         ),
         (controls_short(s.frames, s.lanes, l), Refusal::ShortRead),
-        (pairs_short(s.lanes, pairs, last), Refusal::ShortWrite),
+        (
+            state_short(pairs_length(s.lanes), pairs, s.lanes, last),
+            Refusal::ShortWrite,
+        ),
     ])
 }

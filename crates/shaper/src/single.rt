@@ -18,7 +18,7 @@ use grid::Lane;
 use limits::Refusal;
 use reads::LaneReads;
 
-// For C: the number of a refusal, 0 where there is none, the range's frames, and the list.
+// For C, which has no `Result`: the number of a refusal, 0 where there is none, the range's frames, and the list.
 #[repr(C)]
 #[derive(Clone, Copy)]
 pub struct ReadsAnswer {

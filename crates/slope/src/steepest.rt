@@ -38,7 +38,8 @@ fn lean_slope(mode: u32, a: f32) -> f32
     lean_steepest(lean_strength(mode, a))
 }
 
-// The slope at the amount `a`, 0 to 1. A `match`: C's number comes in, and the modes go by different numbers.
+// The slope at the amount `a`, 0 to 1. A `match`: C's number comes in, and each arm goes by numbers of its own, so that
+// a table of closures would be the same arms with a search before them.
 #[tactic(auto, unfolding(crate::specs::Slope::slope_of, modes::specs::Choice::case_of))]
 fn slope_of(mode: u32, a: f32, curve: f32) -> f32
     ensures { result ≡ slope_of mode a curve }

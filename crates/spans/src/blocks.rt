@@ -29,6 +29,7 @@ fn prepare_lane(
         (λ l. filled block.mode0 block.mode1 block.factor block.frames block.rate block.curve (controls_of lane.lanes l block.frames (control_lists controls.now)) rows)
         (views lane.lanes (spans inner.old stretch.old add.old)) (views lane.lanes (spans inner.new stretch.new add.new)) }
 {
+    // By the sub-block's number, which `span_at` asks for: three cells, `lanes` apart from those of the next.
     for s in 0..rows {
         let span = block.span_at(lane, s, controls);
         let at = lane.place(s);
@@ -55,6 +56,7 @@ fn prepare_lanes(
         (λ l. filled block.mode0 block.mode1 block.factor block.frames block.rate block.curve (controls_of lanes l block.frames (control_lists controls.now)) rows)
         (views lanes (spans inner.old stretch.old add.old)) (views lanes (spans inner.new stretch.new add.new)) }
 {
+    // A lane is its number: its cells are no part of a slice to go through.
     for index in 0..active {
         let lane = Lane { lanes, index };
         prepare_lane(block, rows, lane, controls, inner, stretch, add);

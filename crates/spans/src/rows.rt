@@ -25,7 +25,7 @@ pub struct LaneRows {
 impl LaneRows {
     // The bounds of a base with its modulation.
     #[tactic(auto, unfolding(crate::specs::Slopes::bounds_to), using(crate::proofs::ColumnLaws::row_read))]
-    pub fn bounds(self, base: f32, modulation: &[f32]) -> Bounds
+    pub(crate) fn bounds(self, base: f32, modulation: &[f32]) -> Bounds
         requires { self.all * self.lane.lanes ≤ length modulation.now }
         ensures { result ≡ bounds_to base (column nan self.lane.lanes self.lane.index self.all modulation.now) self.from self.count }
     {
@@ -33,6 +33,8 @@ impl LaneRows {
             low: f32::INFINITY,
             high: f32::NEG_INFINITY,
         };
+        // By places: a lane's numbers lie `lanes` apart. An iterator that skips to the first row, steps over the other
+        // lanes and ends with the last row is no plainer.
         for i in 0..self.count {
             bounds = bounds.widened(base + modulation[self.lane.place(self.from + i)]);
         }
@@ -50,6 +52,7 @@ impl LaneRows {
             step: 0.0,
             last: source[self.lane.place(self.from)],
         };
+        // By places, as in `bounds`.
         for i in 0..self.count {
             swing = swing.on(source[self.lane.place(self.from + i)]);
         }
@@ -58,11 +61,12 @@ impl LaneRows {
 
     // The largest, at least `start`; a NaN is passed over.
     #[tactic(auto, unfolding(crate::specs::Asked::most_to), using(crate::proofs::ColumnLaws::row_read))]
-    pub fn most(self, start: f32, xs: &[f32]) -> f32
+    pub(crate) fn most(self, start: f32, xs: &[f32]) -> f32
         requires { self.all * self.lane.lanes ≤ length xs.now }
         ensures { result ≡ most_to start (column nan self.lane.lanes self.lane.index self.all xs.now) self.from self.count }
     {
         let mut most = start;
+        // By places, as in `bounds`.
         for i in 0..self.count {
             most = max(most, xs[self.lane.place(self.from + i)]);
         }

@@ -27,7 +27,7 @@ pub struct Bounds {
 
 impl Bounds {
     #[tactic(auto, unfolding(crate::specs::Slopes::widened))]
-    pub fn widened(self, x: f32) -> Bounds
+    pub(crate) fn widened(self, x: f32) -> Bounds
         ensures { result ≡ widened self x }
     {
         Bounds {
@@ -65,7 +65,7 @@ pub struct Swing {
 
 impl Swing {
     #[tactic(auto, unfolding(crate::specs::Slopes::swung))]
-    pub fn on(self, x: f32) -> Swing
+    pub(crate) fn on(self, x: f32) -> Swing
         ensures { result ≡ swung self x }
     {
         Swing {

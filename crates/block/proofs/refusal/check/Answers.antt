@@ -9,11 +9,9 @@ pub returns-in_err-check_numbers : goal.returns-in_err-check_numbers
 returns-in_err-check_numbers c =
     rw (table_is _ _ _) (by_numbers _ _ _ _ _ c.from_residual.ensures.1 c.in_err-check_numbers.ensures)
 
-pub reads_short-requires : goal.reads_short-requires
-reads_short-requires c = let p = small_numbers c.args.call c.in_ok-check_numbers.ensures in (p.0, p.1, p.2)
-
-pub writes_short-requires : goal.writes_short-requires
-writes_short-requires c = small_numbers c.args.call c.in_ok-check_numbers.ensures
+pub invariant_of-numbered : goal.invariant_of-numbered
+invariant_of-numbered c =
+    let p = small_numbers c.args.call c.in_ok-check_numbers.ensures in record { block = p.0; rendered = p.1; few = p.2; range = p.3 }
 
 pub returns : goal.returns
 unfolding number_of
