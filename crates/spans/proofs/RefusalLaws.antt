@@ -86,9 +86,6 @@ module _ (factor n active lane f first count from asked stretch add : ℕ) where
       let read = or_false (shorter (span_length f n) stretch) (shorter (span_length f n) add) p.read in
       record { factors = p.numbers.factor; lanes = p.numbers.lanes; looked = p.numbers.frames; stretches = read.0; adds = read.1 }
 
-  pub accepted_frames : stretch_refusal factor n active lane f first count from asked stretch add ≡ 0 → f ≤ 4096
-  accepted_frames e = (good_asked factor f first count from asked (stretch_accepted e).looked).0
-
   -- what the call's steps ask for
   pub asks_of : stretch_refusal factor n active lane f first count from asked stretch add ≡ 0
       → Asks factor first (spans_of f) n lane from asked stretch add

@@ -58,6 +58,7 @@ fn faster_of(call: StretchNumbers, stretch: &[f32], add: &[f32]) -> f32
 }
 
 // How much faster than its phase a lane reads, and the range's host frames.
+#[tactic(auto, using(crate::proofs::RefusalLaws::asks_of), unfolding(limits::specs::Refusals::number_of, limits::specs::Refusals::valued_of))]
 pub fn stretch(call: StretchNumbers, stretch: &[f32], add: &[f32]) -> Result<(u32, f32), Refusal>
     ensures { Faster call.factor call.lanes call.active call.lane call.frames call.first call.count call.asked_first call.asked call.step
         stretch.now add.now (valued_of result) }
