@@ -11,6 +11,7 @@ use render::BlockSettings;
 use shaper::Settings;
 
 // The sine's five numbers, then the arctangent's eight.
+#[tactic(auto, using(crate::proofs::NumberLaws::numbers_taken))]
 pub fn numbers_of(xs: &[f32]) -> Numbers
     requires { numbers_length ≤ length xs.now }
     ensures { result ≡ numbers_of xs.now }
