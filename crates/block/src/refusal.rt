@@ -186,6 +186,7 @@ impl Numbered {
 }
 
 // A block run, by the first line that holds.
+#[tactic(auto, using(crate::proofs::RefusalLaws::small_numbers, crate::proofs::RefusalLaws::table_is, crate::proofs::RefusalLaws::last_lines), unfolding(limits::specs::Refusals::number_of))]
 pub fn check(call: CallNumbers, reads: ReadLengths, writes: WriteLengths) -> Result<(), Refusal>
     ensures { number_of result ≡ block_refusal call reads writes }
 {
