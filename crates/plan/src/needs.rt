@@ -61,6 +61,7 @@ struct Accepted {
 
 impl Accepted {
     // One lane's section steps. The last stage, of design 0, makes each frame once, the one before it twice.
+    #[tactic(auto, using(crate::proofs::StepLaws::steps_none, crate::proofs::StepLaws::steps_one, crate::proofs::StepLaws::steps_two, crate::proofs::StepLaws::steps_three, crate::proofs::StepLaws::one_most, crate::proofs::StepLaws::two_most, crate::proofs::StepLaws::three_most), unfolding(crate::specs::Counting::lane_steps, halfband::specs::Halfband::stages_of))]
     fn lane_steps(self) -> u32
         ensures value { result ≡ lane_steps self.block.factor self.block.frames self.block.count0 self.block.count1 self.block.count2 }
         ensures upper_bound { result ≤ 344064 }
