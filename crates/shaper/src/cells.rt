@@ -12,6 +12,7 @@ use grid::Lane;
 use wave::Svf;
 
 // The filter pair in rows `row` and `row` + 1.
+#[tactic(auto, unfolding(grid::specs::Cells::col))]
 pub fn load_pair(pairs: &[f32], row: usize, lane: Lane) -> Svf
     requires row_inside { row < 3 }
     requires held { pairs_length lane.lanes ≤ length pairs.now }

@@ -59,6 +59,7 @@ fn no_reads() -> LaneReads
 }
 
 // The list of a call that is taken, its FM carry stored.
+#[tactic(auto, using(crate::proofs::TakenLaws::reads_taken), unfolding(grid::specs::Cells::col))]
 fn reads_taken(
     s: Settings,
     rate: u32,
@@ -95,6 +96,7 @@ fn reads_taken(
 
 // The range's frames, and the read list of one lane at one rendered frame, counted from the range's start, for
 // a phase `word` that moves `step` words a rendered frame. `fm` is the FM carry; `last` is only read.
+#[tactic(auto, using(crate::proofs::RefusalLaws::reads_passed, crate::proofs::RefusalLaws::driven_of_lem))]
 pub fn reads_lane(
     s: Settings,
     rate: u32,
@@ -147,6 +149,7 @@ pub fn reads_lane(
 }
 
 // The sample of a call that is taken, its filter pairs and `last` stored.
+#[tactic(auto, using(crate::proofs::TakenLaws::sample_taken, grid::proofs::CellLaws::col_at))]
 fn sample_taken(
     s: Settings,
     lane: usize,
@@ -190,6 +193,7 @@ fn sample_taken(
 
 // The range's frames, and the sample `x` of one lane at one rendered frame, shaped. `pairs` are the filter
 // pairs; `last` keeps the raw sample for phase distortion from the oscillator's own signal.
+#[tactic(auto, using(crate::proofs::RefusalLaws::sample_passed, crate::proofs::RefusalLaws::driven_of_lem))]
 pub fn shape_at_lane(
     s: Settings,
     active: u32,

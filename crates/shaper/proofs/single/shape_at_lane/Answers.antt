@@ -1,5 +1,4 @@
 -- `single::shape_at_lane` meets its contract.
-use native.Mathlib.Omega.{arith}
 use Rattle.shaper.proofs.RefusalLaws.{sample_passed, driven_of_lem}
 use Rattle.shaper.proofs.CallLaws.{sample_turned_down, sample_done}
 use Rattle.shaper.proofs.single.shape_at_lane.Goals as goal
@@ -8,21 +7,9 @@ pub returns-in_err-check_sample : goal.returns-in_err-check_sample
 returns-in_err-check_sample c =
     sample_turned_down _ _ _ _ _ _ _ _ _ _ _ _ c.from_residual.ensures.1 (rw c.lengths.ensures at c.in_err-check_sample.ensures)
 
-pub nonzero_div-host : goal.nonzero_div-host
-nonzero_div-host c = (sample_passed c.lengths.ensures c.in_ok-check_sample.ensures).accepted.least
-
-pub overflow_add-host : goal.overflow_add-host
-overflow_add-host c =
-    let spot = (driven_of_lem (sample_passed c.lengths.ensures c.in_ok-check_sample.ensures).accepted).spot in
-    omega (arith, spot.row, spot.block)
-
-pub nonzero_rem-sub : goal.nonzero_rem-sub
-nonzero_rem-sub c = (sample_passed c.lengths.ensures c.in_ok-check_sample.ensures).accepted.least
-
-pub sample_taken-value-requires : goal.sample_taken-value-requires
-sample_taken-value-requires c =
-    let a = sample_passed c.lengths.ensures c.in_ok-check_sample.ensures in
-    record { driven = driven_of_lem a.accepted; pairs_held = a.cells; last_held = a.kept }
+pub sample_taken-value-requires-clause-driven : goal.sample_taken-value-requires-clause-driven
+sample_taken-value-requires-clause-driven c =
+    driven_of_lem (sample_passed c.lengths.ensures c.in_ok-check_sample.ensures).accepted
 
 pub returns : goal.returns
 returns c =
