@@ -20,6 +20,7 @@ fn lanes_or(refusal: Refusal) -> Refusal
 
 // Where a lane is given, that lane's run, else the block run. A lane that isn't active is line 3, which only
 // lines 1 and 2 come before.
+#[tactic(auto, using(crate::proofs::LaneLaws::active_number, crate::proofs::LaneLaws::idle_number), unfolding(limits::specs::Refusals::number_of, limits::specs::Refusals::line_of))]
 pub fn check_either(
     lane: Option<u32>,
     call: CallNumbers,

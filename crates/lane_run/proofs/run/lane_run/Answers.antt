@@ -1,5 +1,5 @@
 -- `run::lane_run` meets its contract: one test, and what is accepted is run.
-use Prim.Native.Nat.{ℕ, ◌+◌}
+use Prim.Native.Nat.{◌+◌}
 use native.Mathlib.Omega.{arith}
 use Rattle.render.specs.Lane.{Lent}
 use Rattle.render.specs.Slices.{lent_lists}
