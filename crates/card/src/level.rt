@@ -9,6 +9,7 @@ use limits::Refusal;
 
 // `levels::amount_for` with sine and arctangent numbers on a slice, which is read once it is known to be
 // long enough.
+#[tactic(auto, using(levels::proofs::LevelLaws::lines_passed, limits::proofs::LengthLaws::long_enough, levels::proofs::LevelLaws::passed), unfolding(limits::specs::Refusals::number_of))]
 fn amount_for(
     mode: u32,
     sample: f32,

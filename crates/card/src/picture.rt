@@ -13,6 +13,7 @@ use reads::Cycle;
 
 // `preview::preview` with sine and arctangent numbers on a slice, which is read once it is known to be long
 // enough.
+#[tactic(auto, using(preview::proofs::DrawnLaws::passed, limits::proofs::LengthLaws::long_enough, preview::proofs::DrawnLaws::fits), unfolding(limits::specs::Refusals::number_of))]
 fn preview(
     panel0: PanelSlot,
     panel1: PanelSlot,
