@@ -95,7 +95,8 @@ fn reads_taken(
 }
 
 // The range's frames, and the read list of one lane at one rendered frame, counted from the range's start, for
-// a phase `word` that moves `step` words a rendered frame. `fm` is the FM carry; `last` is only read.
+// a phase `word` that moves `step` words a rendered frame. `fm` is the FM carry; `last` is only read. Why the numbers
+// come one by one, here and below, is told at `check_reads`.
 #[tactic(auto, using(crate::proofs::RefusalLaws::reads_passed, crate::proofs::RefusalLaws::driven_of_lem))]
 pub fn reads_lane(
     s: Settings,
