@@ -11,7 +11,7 @@ use answers::runs::ModesRun;
 use answers::waves::sample;
 use grid::place;
 use phase::Slot;
-use shaper::{Range, Settings};
+use shaper::{Range, Settings, SingleCall};
 
 // The numbers of a block, and of the range and the frames in it that a call is about. The factor is
 // 2^`shift`.
@@ -154,6 +154,17 @@ impl Call {
             fault,
             row: p.short_row(),
             rows: p.short_rows(),
+        }
+    }
+
+    // What the calls about one rendered frame take of it.
+    pub fn single(self) -> SingleCall {
+        SingleCall {
+            settings: self.settings,
+            active: self.active,
+            lane: self.lane,
+            range: self.range,
+            frame: self.frame,
         }
     }
 }

@@ -47,12 +47,8 @@ pub fn reads_hash(table: &[f32; 1025], run: ModesRun) -> u64 {
         let d = Draws::new(random);
         let c = Call::new(run, d);
         let outcome = shaper::reads_lane(
-            c.settings,
+            c.single(),
             c.rate,
-            c.active,
-            c.lane,
-            c.range,
-            c.frame,
             c.word,
             c.step,
             &lent(c, d, &controls),
@@ -77,11 +73,7 @@ pub fn samples_hash(run: ModesRun) -> u64 {
         let d = Draws::new(random);
         let c = Call::new(run, d);
         let outcome = shaper::shape_at_lane(
-            c.settings,
-            c.active,
-            c.lane,
-            c.range,
-            c.frame,
+            c.single(),
             c.step,
             c.x,
             &lent(c, d, &controls),

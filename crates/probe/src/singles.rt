@@ -10,7 +10,7 @@ use controls::ControlSlices;
 use lanes::Numbers;
 use limits::Valued;
 use phase::Slot;
-use shaper::{Range, ReadsAnswer, Settings};
+use shaper::{Range, ReadsAnswer, Settings, SingleCall};
 
 #[unsafe(no_mangle)]
 pub extern "C" fn probe_fm_exponential(s: f32) -> f32
@@ -92,10 +92,14 @@ pub extern "C" fn probe_reads_lane(
         source0,
         source1,
     };
-    let r = Range { first, count };
-    ReadsAnswer::from(shaper::reads_lane(
-        s, rate, active, lane, r, frame, word, step, &controls, curve, inner, fm, last,
-    ))
+    let call = SingleCall {
+        settings: s,
+        active,
+        lane,
+        range: Range { first, count },
+        frame,
+    };
+    ReadsAnswer::from(shaper::reads_lane(call, rate, word, step, &controls, curve, inner, fm, last))
 }
 
 #[unsafe(no_mangle)]
@@ -139,6 +143,12 @@ pub extern "C" fn probe_shape_at_lane(
         source0,
         source1,
     };
-    let r = Range { first, count };
-    Valued::from(shaper::shape_at_lane(s, active, lane, r, frame, step, x, &controls, pairs, last))
+    let call = SingleCall {
+        settings: s,
+        active,
+        lane,
+        range: Range { first, count },
+        frame,
+    };
+    Valued::from(shaper::shape_at_lane(call, step, x, &controls, pairs, last))
 }

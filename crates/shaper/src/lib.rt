@@ -10,5 +10,5 @@ pub mod single;
 
 pub use cells::{load_pair, store_carry, store_last, store_pairs};
 pub use lane::{reads_at, shape_at};
-pub use settings::{Range, Settings};
+pub use settings::{Range, Settings, SingleCall};
 pub use single::{ReadsAnswer, reads_lane, shape_at_lane};

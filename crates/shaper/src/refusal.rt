@@ -4,7 +4,7 @@ ghost use Rattle.limits.specs.Lengths.{last_length, shorter};
 ghost use Rattle.limits.specs.Refusals.{number_of};
 ghost use Rattle.shaper.specs.Refusal.{reads_short, reads_refusal, sample_refusal};
 
-use crate::settings::{Range, Settings};
+use crate::settings::{Settings, SingleCall};
 use limits::{
     CURVE_LENGTH, ControlLengths, Refusal, carry_length, check_lines, controls_short, factor_bad,
     frame_bad, lane_bad, last_length, modes_bad, pairs_length, rate_bad, short, span_length,
@@ -26,62 +26,61 @@ fn state_short(whole: usize, held: usize, lanes: u32, last: usize) -> bool
     short(whole, held) | short(last_length(lanes), last)
 }
 
-// A read list. The last four arguments are lengths. Here, in `check_sample` and in the calls that they turn down, the
-// numbers stay one by one, as the lines of the table ask for them and as C's tests of the calls give them: a struct
-// would be made at each call, to be taken apart at once.
+// The lengths of what a read list is lent.
+#[derive(Clone, Copy)]
+pub struct ReadsLengths {
+    pub controls: ControlLengths,
+    pub curve: usize,
+    pub inner: usize,
+    pub fm: usize,
+    pub last: usize,
+}
+
+// A read list.
 #[tactic(auto, unfolding(crate::specs::Refusal::reads_refusal, limits::specs::Lines::first_of, limits::specs::Refusals::line_of))]
-pub fn check_reads(
-    s: Settings,
-    rate: u32,
-    active: u32,
-    lane: u32,
-    r: Range,
-    frame: u32,
-    l: ControlLengths,
-    curve: usize,
-    inner: usize,
-    fm: usize,
-    last: usize,
-) -> Result<(), Refusal>
-    ensures { number_of result ≡ reads_refusal s rate active lane r frame l curve inner fm last }
+pub fn check_reads(call: SingleCall, rate: u32, l: ReadsLengths) -> Result<(), Refusal>
+    ensures { number_of result ≡ reads_refusal call.settings rate call.active call.lane call.range call.frame l.controls l.curve l.inner l.fm l.last }
 {
+    let s = call.settings;
+    let r = call.range;
     check_lines(&[
         (modes_bad(s.slot0.mode, s.slot1.mode), Refusal::Mode),
         (factor_bad(s.factor), Refusal::Factor),
-        (lane_bad(s.lanes, active, lane), Refusal::Lanes),
+        (lane_bad(s.lanes, call.active, call.lane), Refusal::Lanes),
         (
-            frame_bad(s.factor, s.frames, r.first, r.count, frame),
+            frame_bad(s.factor, s.frames, r.first, r.count, call.frame),
             Refusal::Frames,
         ),
         (rate_bad(rate), Refusal::Rate),
-        (reads_short(s, l, curve, inner), Refusal::ShortRead),
         (
-            state_short(carry_length(s.lanes), fm, s.lanes, last),
+            reads_short(s, l.controls, l.curve, l.inner),
+            Refusal::ShortRead,
+        ),
+        (
+            state_short(carry_length(s.lanes), l.fm, s.lanes, l.last),
             Refusal::ShortWrite,
         ),
     ])
 }
 
-// A sample.
+// A sample; of the filter pairs and `last` the lengths.
 #[tactic(auto, unfolding(crate::specs::Refusal::sample_refusal, limits::specs::Lines::first_of, limits::specs::Refusals::line_of))]
 pub fn check_sample(
-    s: Settings,
-    active: u32,
-    lane: u32,
-    r: Range,
-    frame: u32,
+    call: SingleCall,
     l: ControlLengths,
     pairs: usize,
     last: usize,
 ) -> Result<(), Refusal>
-    ensures { number_of result ≡ sample_refusal s active lane r frame l pairs last }
+    ensures { number_of result ≡ sample_refusal call.settings call.active call.lane call.range call.frame l pairs last }
 {
+    let s = call.settings;
+    let r = call.range;
     check_lines(&[
         (modes_bad(s.slot0.mode, s.slot1.mode), Refusal::Mode),
         (factor_bad(s.factor), Refusal::Factor),
-        (lane_bad(s.lanes, active, lane), Refusal::Lanes),
+        (lane_bad(s.lanes, call.active, call.lane), Refusal::Lanes),
         (
-            frame_bad(s.factor, s.frames, r.first, r.count, frame),
+            frame_bad(s.factor, s.frames, r.first, r.count, call.frame),
             Refusal::Frames,
         ),
         (controls_short(s.frames, s.lanes, l), Refusal::ShortRead),

@@ -21,3 +21,13 @@ pub struct Range {
     pub first: u32,
     pub count: u32,
 }
+
+// A lane at a rendered frame, which is counted from the range's start: what a call about a single one is about.
+#[derive(Clone, Copy)]
+pub struct SingleCall {
+    pub settings: Settings,
+    pub active: u32,
+    pub lane: u32,
+    pub range: Range,
+    pub frame: u32,
+}

@@ -10,8 +10,8 @@ ghost use Rattle.shaper.specs.Taken.{Driven, Fed, ReadsTaken, SampleTaken};
 
 use crate::cells::{load_pair, store_carry, store_last, store_pairs};
 use crate::lane::{reads_at, shape_at};
-use crate::refusal::{check_reads, check_sample};
-use crate::settings::{Range, Settings};
+use crate::refusal::{ReadsLengths, check_reads, check_sample};
+use crate::settings::{Settings, SingleCall};
 use controls::ControlSlices;
 use curve::Curve;
 use grid::Lane;
@@ -94,17 +94,11 @@ fn reads_taken(
     called.reads
 }
 
-// The range's frames, and the read list of one lane at one rendered frame, counted from the range's start, for
-// a phase `word` that moves `step` words a rendered frame. `fm` is the FM carry; `last` is only read. Why the numbers
-// come one by one, here and below, is told at `check_reads`.
+// The range's frames, and the read list of one lane at one rendered frame, for a phase `word` that moves `step` words a rendered frame. `fm` is the FM carry; `last` is only read.
 #[tactic(auto, using(crate::proofs::RefusalLaws::reads_passed, crate::proofs::RefusalLaws::driven_of_lem))]
 pub fn reads_lane(
-    s: Settings,
+    call: SingleCall,
     rate: u32,
-    active: u32,
-    lane: u32,
-    r: Range,
-    frame: u32,
     word: u32,
     step: u32,
     controls: &ControlSlices<'_>,
@@ -113,29 +107,25 @@ pub fn reads_lane(
     fm: &mut [f32],
     last: &[f32],
 ) -> Result<(u32, LaneReads), Refusal>
-    ensures { ReadsCall s rate active lane r frame word step (control_lists controls.now)
+    ensures { ReadsCall call.settings rate call.active call.lane call.range call.frame word step (control_lists controls.now)
         curve.now inner.now fm.old fm.new last.now (reads_answer result) }
 {
-    check_reads(
-        s,
-        rate,
-        active,
-        lane,
-        r,
-        frame,
-        controls.lengths(),
-        curve.len(),
-        inner.len(),
-        fm.len(),
-        last.len(),
-    )?;
-    let host = (r.first + frame / s.factor) as usize;
-    let sub = frame % s.factor;
+    let lengths = ReadsLengths {
+        controls: controls.lengths(),
+        curve: curve.len(),
+        inner: inner.len(),
+        fm: fm.len(),
+        last: last.len(),
+    };
+    check_reads(call, rate, lengths)?;
+    let s = call.settings;
+    let host = (call.range.first + call.frame / s.factor) as usize;
+    let sub = call.frame % s.factor;
     let curve = Curve { values: curve };
     let reads = reads_taken(
         s,
         rate,
-        lane as usize,
+        call.lane as usize,
         host,
         sub,
         word,
@@ -146,7 +136,7 @@ pub fn reads_lane(
         fm,
         last,
     );
-    Ok((r.count, reads))
+    Ok((call.range.count, reads))
 }
 
 // The sample of a call that is taken, its filter pairs and `last` stored.
@@ -196,32 +186,30 @@ fn sample_taken(
 // pairs; `last` keeps the raw sample for phase distortion from the oscillator's own signal.
 #[tactic(auto, using(crate::proofs::RefusalLaws::sample_passed, crate::proofs::RefusalLaws::driven_of_lem))]
 pub fn shape_at_lane(
-    s: Settings,
-    active: u32,
-    lane: u32,
-    r: Range,
-    frame: u32,
+    call: SingleCall,
     step: u32,
     x: f32,
     controls: &ControlSlices<'_>,
     pairs: &mut [f32],
     last: &mut [f32],
 ) -> Result<(u32, f32), Refusal>
-    ensures { SampleCall s active lane r frame step x (control_lists controls.now)
+    ensures { SampleCall call.settings call.active call.lane call.range call.frame step x (control_lists controls.now)
         pairs.old last.old pairs.new last.new (valued_of result) }
 {
-    check_sample(
+    check_sample(call, controls.lengths(), pairs.len(), last.len())?;
+    let s = call.settings;
+    let host = (call.range.first + call.frame / s.factor) as usize;
+    let sub = call.frame % s.factor;
+    let value = sample_taken(
         s,
-        active,
-        lane,
-        r,
-        frame,
-        controls.lengths(),
-        pairs.len(),
-        last.len(),
-    )?;
-    let host = (r.first + frame / s.factor) as usize;
-    let sub = frame % s.factor;
-    let value = sample_taken(s, lane as usize, host, sub, step, x, controls, pairs, last);
-    Ok((r.count, value))
+        call.lane as usize,
+        host,
+        sub,
+        step,
+        x,
+        controls,
+        pairs,
+        last,
+    );
+    Ok((call.range.count, value))
 }
