@@ -2,4 +2,7 @@
 pub mod LineLaws
 pub mod NumberLaws
 pub mod WordLaws
+pub mod ReadLaws
+pub mod CountLaws
+pub mod ScanLaws
 pub mod DecimalLaws

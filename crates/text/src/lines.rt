@@ -10,7 +10,8 @@ use std::marker::Model;
 // The bytes that are kept of a line.
 const KEPT: usize = 255;
 
-// A line as it is read: the bytes that are kept of it, and whether its end has come.
+// A line as it is read: the bytes that are kept of it, and whether its end has come. A flag and no `Option`: the bytes
+// are there before the end as well as after it.
 #[derive(Drop)]
 pub struct Line {
     kept: ArrayVec<u8, KEPT>,
@@ -55,12 +56,19 @@ impl Line {
         self.kept.push(byte);
     }
 
+    // Its bytes, whether or not its end has come.
+    pub fn bytes(&self) -> &[u8]
+        ensures { result.now ≡ self.now.bytes }
+    {
+        self.kept.as_slice()
+    }
+
     // The line, where its end has come.
     #[tactic(auto, unfolding(crate::specs::Lines::ended_line))]
     pub fn ended(&self) -> Option<&[u8]>
         ensures { option_map (λ line. line.now) result ≡ ended_line self.now }
     {
-        self.has_ended.then_some(self.kept.as_slice())
+        self.has_ended.then_some(self.bytes())
     }
 
     // At the input's end: a line that had no end, unless it is empty.
@@ -69,6 +77,6 @@ impl Line {
         ensures { option_to_list (option_map (λ line. line.now) result) ≡ unless_empty (begun self.now) }
     {
         let is_left_over = !self.has_ended && !self.kept.is_empty();
-        is_left_over.then_some(self.kept.as_slice())
+        is_left_over.then_some(self.bytes())
     }
 }

@@ -6,7 +6,7 @@ use Rattle.std.proofs.lemmas.Iterator.Consumers.{YieldsList-at, YieldsList-from_
 use Rattle.std.proofs.lemmas.Iterator.Splits.{YieldsList-from_slice_split}
 use Rattle.text.specs.Decimal.{blank, seven_of_words}
 use Rattle.text.proofs.WordLaws.{words_found}
-use Rattle.text.proofs.DecimalLaws.{reads_none, reads_more, no_number, eighth, seven_found}
+use Rattle.text.proofs.ReadLaws.{reads_none, reads_more, no_number, eighth, seven_read}
 use Rattle.text.proofs.decimal.seven_of.Goals as goal
 
 pub loop-word-init : goal.loop-word-init
@@ -43,5 +43,5 @@ returns-in_err-ok c =
 pub returns : goal.returns
 returns c =
     let end = YieldsList-end c.loop-word.invariant.2 c.loop-word.yielded _ c.loop-word.yielded_by _ c.next.new.self c.in-None.is c.next.ensures.steps in
-    let found = seven_found c.args.line.now _ _ end.1 c.loop-word.invariant.3 in
+    let found = seven_read c.args.line.now _ _ end.1 c.loop-word.invariant.3 in
     grind (arith, common_steps, nat_tests)

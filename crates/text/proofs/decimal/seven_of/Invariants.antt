@@ -1,7 +1,7 @@
 use Rattle.std.proofs.Common.{length}
 use Rattle.std.proofs.lemmas.Iterator.{YieldsList}
 use Rattle.text.proofs.WordLaws.{parts_of, full_of}
-use Rattle.text.proofs.DecimalLaws.{Reads}
+use Rattle.text.proofs.ReadLaws.{Reads}
 use Rattle.text.proofs.decimal.seven_of.Given as goal
 
 abbrev pub invariant-loop-word : goal.invariant-loop-word
