@@ -1,17 +1,12 @@
--- A record by its parts: what its length counts, and the body after the kind. Assumes nothing.
-use Rattle.std.proofs.Common.{◌≡◌, ℕ, ◌+◌, ◌-◌, ◌*◌, ◌≤◌, ◌<◌, List, Bool, true, false, length, get_or, take, drop, refl, sym, ◌∙◌, ap, arith, length-take, length-drop}
+-- A record by its parts: what its length counts, and the kind within that. Assumes nothing.
+use Rattle.std.proofs.Common.{◌≡◌, ℕ, ◌+◌, ◌-◌, ◌*◌, ◌≤◌, ◌<◌, List, [], ◌∷◌, Bool, true, false, not, length, get_or, take, drop, refl, sym, ◌∙◌, ap, arith, length-take, length-drop}
 use Rattle.std.proofs.lemmas.List.{get_or-take, get_or-drop, take_rest}
-use Rattle.std.specs.Prelude.{eqb, Result, Ok, Err, IfOk}
 use Rattle.std.specs.List.{slice_range}
-use borrow.Author.Tests.{eqb-true, eqb-false, eq-eqb, ne_eqb}
-use Rattle.limits.specs.declared.refusal.Refusal.{Refusal}
+use borrow.Author.Tests.{eq-eqb}
 use Rattle.limits.specs.Lines.{first_of}
-use Rattle.limits.specs.Refusals.{number_of}
 use Rattle.files.specs.declared.records.Kind.{Kind}
-use Rattle.files.specs.declared.records.Record.{Record}
-use Rattle.files.specs.Format.{kind_number, entry_as, two_at, four_at, known_kind, bad_fields, fields_in, body_number, fields_at, number_at}
+use Rattle.files.specs.Format.{kind_number, two_at, four_at, known_kind, bad_fields, fields_at, number_at}
 use Rattle.files.proofs.NumberLaws.{unknown, wrong_length_lem, bad, good}
-use Rattle.files.proofs.ReaderLaws.{passed}
 
 -- ---- a record that starts within a file
 
@@ -69,9 +64,6 @@ module _ (rest part : List ℕ) (n : ℕ) (p : IsPart rest part n) where
   byte_in : (i j : ℕ) → 2 + i ≡ j → i < n → get_or part i 0 ≡ get_or rest j 0
   byte_in i j e h = rw (part_is, get_or-take n (drop 2 rest) i 0, get_or-drop 2 rest i 0, e)
 
-  byte_after : (i j : ℕ) → 4 + i ≡ j → i + 2 < n → get_or (after_two part) i 0 ≡ get_or rest j 0
-  byte_after i j e h = rw (take_rest part 2, get_or-drop 2 part i 0) (byte_in (2 + i) j (omega arith) (omega arith))
-
   kind_in : get_or part 0 0 + get_or part 1 0 * 256 ≡ two_at rest 2
   unfolding two_at
   kind_in = let k = p.kinded in let s = part_size in rw (byte_in 0 2 refl (omega arith), byte_in 1 3 refl (omega arith)) (omega arith)
@@ -97,51 +89,30 @@ module _ (rest part : List ℕ) (n : ℕ) (p : IsPart rest part n) where
     unfolding known_kind
     is_known = eq-eqb _ _ kind_is
 
-    same_fields : n ≡ 12 → fields_in (after_two part) ≡ fields_at rest 0
-    unfolding fields_at two_at four_at
-    same_fields s =
-        let k : get_or rest 2 0 + 256 * get_or rest 3 0 ≡ 1 = kind_is in
-        rw (
-          k,
-          byte_after 0 4 refl (omega arith),
-          byte_after 1 5 refl (omega arith),
-          byte_after 2 6 refl (omega arith),
-          byte_after 3 7 refl (omega arith),
-          byte_after 4 8 refl (omega arith),
-          byte_after 5 9 refl (omega arith),
-          byte_after 6 10 refl (omega arith),
-          byte_after 7 11 refl (omega arith),
-          byte_after 8 12 refl (omega arith),
-          byte_after 9 13 refl (omega arith),
-        )
+    pub other_length : (n ≡ 12 → ⊥) → 9 ≡ number_at rest 0
+    other_length ne =
+        let r = room in
+        let k = p.kinded in
+        let s = part_size in
+        let i = size_is in
+        wrong_length_lem rest 0 (omega arith) (omega arith) (omega arith) is_known (λ h. ne (omega arith))
 
-    body : length (after_two part) ≡ n - 2
-    body = let q = part_size in let e = take_rest part 2 in rw e (omega (arith, length-drop {A = ℕ}))
+    known_fields : known_kind (fields_at rest 0).kind ≡ true
+    unfolding fields_at
+    known_fields = is_known
 
-    -- what is said of the body is said of the record
-    pub same_number : body_number (after_two part) ≡ number_at rest 0
+    -- the number that its fields give is the record's
+    pub fields_number : n ≡ 12 → first_of ((not (known_kind (fields_at rest 0).kind), 10) ∷ (bad_fields (fields_at rest 0), 11) ∷ []) ≡ number_at rest 0
     unfolding first_of
-    same_number = go (eqb n 12) (bad_fields (fields_at rest 0)) refl refl room size_is part_size p.kinded body
+    fields_number is = by_fields (bad_fields (fields_at rest 0)) refl
       where
-        go : (a b : Bool) → eqb n 12 ≡ a → bad_fields (fields_at rest 0) ≡ b → n + 2 ≤ length rest → two_at rest 0 ≡ n → length part ≡ n → 2 ≤ length part
-            → length (after_two part) ≡ n - 2 → body_number (after_two part) ≡ number_at rest 0
-        go false b ea eb r i q k l =
-            let ne : n ≡ 12 → ⊥ = eqb-false _ _ ea in
-            let long : eqb (length (after_two part)) 10 ≡ false = ne_eqb _ _ (λ h. ne (omega arith)) in
-            rw long (wrong_length_lem rest 0 (omega arith) (omega arith) (omega arith) is_known (λ h. ne (omega arith)))
-        go true true ea eb r i q k l =
-            let is : n ≡ 12 = eqb-true _ _ ea in
-            let ten : eqb (length (after_two part)) 10 ≡ true = eq-eqb _ _ (omega arith) in
-            let f : bad_fields (fields_in (after_two part)) ≡ true = ap bad_fields (same_fields is) ∙ eb in
-            rw (ten, f) (bad rest 0 (omega arith) (omega arith) (omega arith) is_known (omega arith) eb)
-        go true false ea eb r i q k l =
-            let is : n ≡ 12 = eqb-true _ _ ea in
-            let ten : eqb (length (after_two part)) 10 ≡ true = eq-eqb _ _ (omega arith) in
-            let f : bad_fields (fields_in (after_two part)) ≡ false = ap bad_fields (same_fields is) ∙ eb in
-            rw (ten, f) (good rest 0 (omega arith) (omega arith) (omega arith) is_known (omega arith) eb)
-
-    pub fields_kept : (r : Result Record Refusal) → number_of r ≡ number_at rest 0 → IfOk r (λ x. entry_as x ≡ fields_in (after_two part))
-        → IfOk r (λ x. entry_as x ≡ fields_at rest 0)
-    unfolding number_of
-    fields_kept (Ok x) z h = h ∙ same_fields (sym size_is ∙ (passed rest 0 (sym z)).sized)
-    fields_kept (Err e) z h = h
+        by_fields : (t : Bool) → bad_fields (fields_at rest 0) ≡ t
+            → first_of ((not (known_kind (fields_at rest 0).kind), 10) ∷ (bad_fields (fields_at rest 0), 11) ∷ []) ≡ number_at rest 0
+        by_fields true h =
+            let r = room in
+            let i = size_is in
+            rw (known_fields, h) (bad rest 0 (omega arith) (omega arith) (omega arith) is_known (omega arith) h)
+        by_fields false h =
+            let r = room in
+            let i = size_is in
+            rw (known_fields, h) (good rest 0 (omega arith) (omega arith) (omega arith) is_known (omega arith) h)

@@ -11,7 +11,8 @@ use Rattle.floats.specs.F32.{0f}
 use Rattle.files.specs.declared.reader.Slots.{Slots}
 use Rattle.files.specs.declared.reader.Held.{Held}
 use Rattle.files.specs.declared.answers.CardSlot.{CardSlot}
-use Rattle.files.specs.Format.{Entry, Valid, AllValid, none, more, AllBytes, bad_fields}
+use Rattle.files.specs.declared.fields.Entry.{Entry}
+use Rattle.files.specs.Format.{Valid, AllValid, none, more, AllBytes, bad_fields}
 use Rattle.files.specs.Patch.{card_amount, card_character}
 use Rattle.files.specs.Reader.{off_slot, empty_slots, held_as, later_of, superseded, held_of, reading_of}
 use Rattle.files.specs.Writer.{entry_of, writing_of}

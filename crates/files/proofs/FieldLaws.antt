@@ -7,7 +7,8 @@ use borrow.Author.Tests.{ltb-false, le-ltb, eqb-true}
 use lib.Dec.{ltb}
 use Rattle.limits.specs.Lines.{bad_mode}
 use Rattle.std.proofs.lemmas.Bool.{or_parts}
-use Rattle.files.specs.Format.{Entry, known_kind, bad_fields}
+use Rattle.files.specs.declared.fields.Entry.{Entry}
+use Rattle.files.specs.Format.{known_kind, bad_fields}
 
 -- no field is out of its range
 pub record InRange (e : Entry) : Type 0 where

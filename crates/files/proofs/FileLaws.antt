@@ -11,7 +11,8 @@ use Rattle.std.proofs.lemmas.Bool.{or_parts}
 use Rattle.files.specs.declared.patches.Patch.{Patch}
 use Rattle.files.specs.declared.reader.Slots.{Slots}
 use Rattle.files.specs.declared.answers.Written.{Written}
-use Rattle.files.specs.Format.{Entry, limit, two_at, four_at, known_kind, fields_at, number_at, bad_fields, record_of, records_of, Valid, AllValid, none, more}
+use Rattle.files.specs.declared.fields.Entry.{Entry}
+use Rattle.files.specs.Format.{limit, two_at, four_at, known_kind, fields_at, number_at, bad_fields, record_of, records_of, Valid, AllValid, none, more}
 use Rattle.files.specs.Reader.{empty_slots, superseded, later_of, held_of, accepted_as, read_from, reading_of}
 use Rattle.files.specs.Writer.{entry_of, file_of, Wrote}
 use Rattle.files.proofs.FieldLaws.{good_fields, small_kind}

@@ -8,7 +8,8 @@ use borrow.Author.Tests.{ltb-true, ltb-false, eqb-true, eqb-false, ne_eqb, eq-eq
 use lib.Dec.{ltb, eqb}
 use Rattle.files.specs.declared.reader.Held.{Held}
 use Rattle.files.specs.declared.reader.Slots.{Slots}
-use Rattle.files.specs.Format.{Entry, AllValid, more}
+use Rattle.files.specs.declared.fields.Entry.{Entry}
+use Rattle.files.specs.Format.{AllValid, more}
 use Rattle.files.specs.Reader.{empty_held, empty_slots, held_as, later_of, superseded, held_of}
 use Rattle.files.specs.Latest.{EachOf, done, each, Latest, absent, latest}
 use Rattle.files.proofs.FieldLaws.{good_fields}

@@ -10,7 +10,8 @@ use lib.Dec.{ltb, eqb}
 use lib.ListN.{length, get_or, take, drop, drop_of_length-le}
 use lib.Seq.{drop-cons, take_at}
 use Rattle.files.specs.declared.reader.Slots.{Slots}
-use Rattle.files.specs.Format.{Entry, limit, two_at, four_at, fields_at, number_at, record_of, records_of, Valid, AllValid, none, more, AllBytes}
+use Rattle.files.specs.declared.fields.Entry.{Entry}
+use Rattle.files.specs.Format.{limit, two_at, four_at, fields_at, number_at, record_of, records_of, Valid, AllValid, none, more, AllBytes}
 use Rattle.files.specs.Reader.{Reading, empty_slots, superseded, held_of, accepted_as, refused_at, read_from, reading_of}
 use Rattle.files.specs.Records.{Accepted, Refused}
 use Rattle.files.proofs.LatestLaws.{latest_0, latest_1}

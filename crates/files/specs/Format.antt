@@ -1,8 +1,10 @@
--- The patch file's format: its numbers, a record, and a record's lines 9, 10 and 11. Definitions only.
-use Rattle.std.specs.Prelude.{◌≡◌, Bool, true, false, not, ◌||◌, ◌&&◌, List, [], ◌∷◌, ◌++◌, ℕ, ◌+◌, ◌-◌, ◌*◌, ◌/◌, ◌%◌, ◌<◌, ltb, eqb, length, get_or, Result, MatchResult}
+-- The patch file's format: its numbers, a record, and a xs lines 9, 10 and 11. Definitions only.
+use Rattle.std.specs.Prelude.{◌≡◌, Bool, true, false, not, ◌||◌, ◌&&◌, List, [], ◌∷◌, ◌++◌, ℕ, ◌+◌, ◌-◌, ◌*◌, ◌/◌, ◌%◌, ◌<◌, ltb, eqb, length, get_or, Result, MatchResult, IfOk}
 use Rattle.limits.specs.Lines.{first_of, bad_mode}
+use Rattle.limits.specs.Refusals.{number_of}
 use Rattle.limits.specs.declared.refusal.Refusal.{Refusal}
 use Rattle.files.specs.declared.patches.PatchSlot.{PatchSlot}
+use Rattle.files.specs.declared.fields.Entry.{Entry}
 use Rattle.files.specs.declared.records.Kind.{Kind}
 use Rattle.files.specs.declared.records.Slot.{Slot}
 use Rattle.files.specs.declared.records.Record.{Record}
@@ -39,15 +41,6 @@ abbrev pub record_bytes : ℕ
 record_bytes = 14
 
 -- its kind and the fields of its body
-pub record Entry : Type 0 where
-  pub kind : ℕ
-  pub slot : ℕ
-  pub mode : ℕ
-  pub hundredths : ℕ
-  pub tenthousandths : ℕ
-  pub serial : ℕ
-
--- as they stand in a file
 unfoldable pub fields_at : List ℕ → ℕ → Entry
 fields_at bytes at =
     record {
@@ -128,22 +121,7 @@ IsSlot n r = MatchResult r (λ slot. slot_number slot ≡ n) (λ refusal. (refus
 abbrev pub bad_settings : PatchSlot → Bool
 bad_settings s = bad_mode s.mode || ltb 10000 s.hundredths || ltb 10000 s.tenthousandths
 
--- the fields of a body of kind 1, and its lines: 9, then 11
-abbrev pub fields_in : List ℕ → Entry
-fields_in body =
-    record {
-      kind = kind_number Kind.Slot;
-      slot = get_or body 0 0;
-      mode = get_or body 1 0;
-      hundredths = two_at body 2;
-      tenthousandths = two_at body 4;
-      serial = four_at body 6;
-    }
-
-abbrev pub body_number : List ℕ → ℕ
-body_number body = first_of ((not (eqb (length body) (record_length - 2)), 9) ∷ (bad_fields (fields_in body), 11) ∷ [])
-
--- a record's kind and fields
+-- a xs kind and fields
 abbrev pub entry_as : Record → Entry
 entry_as r =
     record {
@@ -154,3 +132,8 @@ entry_as r =
       tenthousandths = r.settings.tenthousandths;
       serial = r.serial;
     }
+
+-- the record of these fields; where there is none, the number of line 10 or 11
+abbrev pub IsRecord : Entry → Result Record Refusal → Type 0
+IsRecord e r =
+    (number_of r ≡ first_of ((not (known_kind e.kind), 10) ∷ (bad_fields e, 11) ∷ [])) × IfOk r (λ x. entry_as x ≡ e)

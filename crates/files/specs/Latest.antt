@@ -1,7 +1,7 @@
 -- Which record a slot is left with: "the highest serial supersedes; among equal serials the later record does". Definitions only.
 use Rattle.std.specs.Prelude.{◌≡◌, List, [], ◌∷◌, ◌++◌, ℕ, ◌<◌, ◌≤◌}
 use Rattle.files.specs.declared.reader.Held.{Held}
-use Rattle.files.specs.Format.{Entry}
+use Rattle.files.specs.declared.fields.Entry.{Entry}
 use Rattle.files.specs.Reader.{held_as, empty_held}
 
 -- of each record of slot j

@@ -6,7 +6,8 @@ use Rattle.files.specs.declared.patches.Patch.{Patch}
 use Rattle.files.specs.declared.reader.Held.{Held}
 use Rattle.files.specs.declared.reader.Slots.{Slots}
 use Rattle.files.specs.declared.reader.PatchError.{PatchError}
-use Rattle.files.specs.Format.{Entry, limit, record_bytes, fields_at, number_at}
+use Rattle.files.specs.declared.fields.Entry.{Entry}
+use Rattle.files.specs.Format.{limit, record_bytes, fields_at, number_at}
 
 -- `Off` with zeros
 abbrev pub off_slot : PatchSlot

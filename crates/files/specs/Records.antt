@@ -1,6 +1,7 @@
 -- What an accepted file is, and what stands before the record for which a file is turned away. Definitions only.
 use Rattle.std.specs.Prelude.{◌≡◌, List, ℕ, ◌*◌, ◌<◌, ◌≤◌, length, take}
-use Rattle.files.specs.Format.{Entry, limit, record_bytes, number_at, records_of, AllValid}
+use Rattle.files.specs.declared.fields.Entry.{Entry}
+use Rattle.files.specs.Format.{limit, record_bytes, number_at, records_of, AllValid}
 use Rattle.files.specs.Reader.{empty_slots, no_patch, accepted_as, reading_of, held_of}
 use Rattle.files.specs.Latest.{Latest}
 

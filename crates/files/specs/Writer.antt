@@ -6,7 +6,8 @@ use Rattle.limits.specs.declared.refusal.Refusal.{Refusal}
 use Rattle.files.specs.declared.patches.PatchSlot.{PatchSlot}
 use Rattle.files.specs.declared.patches.Patch.{Patch}
 use Rattle.files.specs.declared.answers.Written.{Written}
-use Rattle.files.specs.Format.{Entry, record_of, bad_fields}
+use Rattle.files.specs.declared.fields.Entry.{Entry}
+use Rattle.files.specs.Format.{record_of, bad_fields}
 
 -- a slot's record is of kind 1 and has serial 1
 abbrev pub entry_of : ℕ → PatchSlot → Entry

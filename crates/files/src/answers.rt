@@ -111,7 +111,7 @@ impl From<Result<bool, Refusal>> for Same {
     }
 }
 
-// Whether two readings gave the same patch; a file that is turned away has none.
+// Whether two readings gave the same patch; a file that is turned away has none, and `==` would call two such the same.
 #[tactic(auto, unfolding(crate::specs::Card::same_of, crate::specs::Card::same_as, crate::specs::Reader::reading_as, limits::specs::Refusals::line_of))]
 pub fn same_patch(
     a: Result<Patch, PatchError>,

@@ -2,6 +2,7 @@
 #![tactic(auto)]
 
 pub mod answers;
+pub mod fields;
 pub mod patches;
 pub mod reader;
 pub mod records;

@@ -13,7 +13,7 @@ pub struct PatchSlot {
 }
 
 impl PatchSlot {
-    // Whether both agree in mode and amount. Not `==`, which would ask the character too.
+    // Whether both agree in mode and amount. No derive's `==`, which would ask the character too.
     fn is_same(self, other: PatchSlot) -> bool
         ensures { result ≡ same_slot self other }
     {
@@ -29,7 +29,7 @@ pub struct Patch {
 }
 
 impl Patch {
-    // Whether both slots agree in mode and amount.
+    // Whether both slots agree in mode and amount: likewise no derive's.
     pub fn is_same(self, other: Patch) -> bool
         ensures { result ≡ same_patch self other }
     {

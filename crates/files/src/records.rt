@@ -2,13 +2,14 @@
 // written low byte first.
 ghost use Rattle.std.specs.Prelude.{◌≡◌, ◌≤◌, cond, IfOk};
 
+pub use crate::fields::{Entry, fields_at};
 use crate::patches::PatchSlot;
 use limits::{Refusal, mode_bad};
 
-// The bytes of a slot's record, and how many of them follow its length.
-pub const RECORD: usize = 14;
+// A slot's record has this length, of what follows it, and so many bytes.
+pub const LENGTH: u16 = 12;
 
-const LENGTH: u16 = 12;
+pub const RECORD: usize = 14;
 
 // What a record is about.
 #[derive(Clone, Copy, Debug, PartialEq, Eq)]
@@ -16,7 +17,7 @@ pub enum Kind {
     Slot = 1,
 }
 
-impl TryFrom<u16> for Kind {
+impl TryFrom<u32> for Kind {
     ghost use Rattle.files.specs.Format.{IsKind};
 
     type Error = Refusal;
@@ -24,7 +25,7 @@ impl TryFrom<u16> for Kind {
     ghost try_from_gives = { IsKind };
 
     #[tactic(auto, unfolding(crate::specs::Format::known_kind))]
-    fn try_from(number: u16) -> Result<Kind, Refusal> {
+    fn try_from(number: u32) -> Result<Kind, Refusal> {
         match number {
             1 => Ok(Kind::Slot),
             _ => Err(Refusal::Kind),
@@ -39,14 +40,14 @@ pub enum Slot {
     One,
 }
 
-impl TryFrom<u8> for Slot {
+impl TryFrom<u32> for Slot {
     ghost use Rattle.files.specs.Format.{IsSlot};
 
     type Error = Refusal;
 
     ghost try_from_gives = { IsSlot };
 
-    fn try_from(number: u8) -> Result<Slot, Refusal> {
+    fn try_from(number: u32) -> Result<Slot, Refusal> {
         match number {
             0 => Ok(Slot::Zero),
             1 => Ok(Slot::One),
@@ -66,7 +67,7 @@ pub struct Record {
 
 impl Record {
     ghost use Rattle.limits.specs.Refusals.{number_of};
-    ghost use Rattle.files.specs.Format.{bad_settings, entry_as, record_of, fields_in, body_number, fields_at, number_at};
+    ghost use Rattle.files.specs.Format.{bad_settings, entry_as, record_of, fields_at, number_at};
 
     // A field out of its range is refused.
     #[tactic(auto, unfolding(limits::specs::Refusals::number_of, limits::specs::Refusals::line_of))]
@@ -89,39 +90,22 @@ impl Record {
         })
     }
 
-    // A record by its body.
-    #[tactic(auto, unfolding(limits::specs::Lines::first_of, limits::specs::Refusals::number_of, limits::specs::Refusals::line_of, crate::specs::Format::two_at, crate::specs::Format::four_at))]
-    fn parse(body: &[u8]) -> Result<Record, Refusal>
-        ensures number { number_of result ≡ body_number body.now }
-        ensures fields { IfOk result (λ r. entry_as r ≡ fields_in body.now) }
-    {
-        let [slot, mode, h0, h1, t0, t1, s0, s1, s2, s3] = body else {
-            return Err(Refusal::Length);
-        };
-        let settings = PatchSlot {
-            mode: u32::from(*mode),
-            hundredths: u32::from(u16::from_le_bytes([*h0, *h1])),
-            tenthousandths: u32::from(u16::from_le_bytes([*t0, *t1])),
-        };
-        let serial = u32::from_le_bytes([*s0, *s1, *s2, *s3]);
-        Record::new(Slot::try_from(*slot)?, settings, serial)
-    }
-
     // The record that a file goes on with.
     #[tactic(auto, using(crate::proofs::NumberLaws::lengths), unfolding(limits::specs::Refusals::number_of, limits::specs::Refusals::line_of, crate::specs::Format::two_at))]
     pub fn read(rest: &[u8]) -> Result<Record, Refusal>
         ensures number { number_of result ≡ number_at rest.now 0 }
         ensures fields { IfOk result (λ r. entry_as r ≡ fields_at rest.now 0) }
     {
-        let [low, high, rest @ ..] = rest else {
+        let [low, high, after @ ..] = rest else {
             return Err(Refusal::Length);
         };
         let length = u16::from_le_bytes([*low, *high]);
-        let Some([low, high, body @ ..]) = rest.get(..usize::from(length)) else {
+        let Some([low, high, ..]) = after.get(..usize::from(length)) else {
             return Err(Refusal::Length);
         };
-        match Kind::try_from(u16::from_le_bytes([*low, *high]))? {
-            Kind::Slot => Record::parse(body),
+        match Kind::try_from(u32::from(u16::from_le_bytes([*low, *high])))? {
+            Kind::Slot if length == LENGTH => Record::try_from(fields_at(rest, 0)),
+            Kind::Slot => Err(Refusal::Length),
         }
     }
 
@@ -138,5 +122,26 @@ impl Record {
         let [t0, t1] = (self.settings.tenthousandths as u16).to_le_bytes();
         let [s0, s1, s2, s3] = self.serial.to_le_bytes();
         [l0, l1, k0, k1, slot, mode, h0, h1, t0, t1, s0, s1, s2, s3]
+    }
+}
+
+// An unknown kind is refused, then a field out of its range.
+impl TryFrom<Entry> for Record {
+    ghost use Rattle.files.specs.Format.{IsRecord};
+
+    type Error = Refusal;
+
+    ghost try_from_gives = { IsRecord };
+
+    #[tactic(auto, unfolding(limits::specs::Lines::first_of, limits::specs::Refusals::number_of, limits::specs::Refusals::line_of, crate::specs::Format::known_kind))]
+    fn try_from(entry: Entry) -> Result<Record, Refusal> {
+        let settings = PatchSlot {
+            mode: entry.mode,
+            hundredths: entry.hundredths,
+            tenthousandths: entry.tenthousandths,
+        };
+        match Kind::try_from(entry.kind)? {
+            Kind::Slot => Record::new(Slot::try_from(entry.slot)?, settings, entry.serial),
+        }
     }
 }
