@@ -1,11 +1,11 @@
-// What calls answer to C: a number, which is 0 where the call is accepted and else its refusal's, and what an
-// accepted call gives, 0 where it is turned down.
+// What calls answer to C, which has no `Result`: a number, which is 0 where the call is accepted and else its refusal's,
+// and beside it what an accepted call gives, 0 where it is turned down.
 ghost use Rattle.std.specs.Prelude.{◌≡◌};
 ghost use Rattle.limits.specs.Refusals.{answer_of, valued_of, value_answer};
 
 use crate::refusal::Refusal;
 
-// The frames of a call.
+// The frames of a call, as C has them.
 #[repr(C)]
 #[derive(Clone, Copy)]
 pub struct Answer {
@@ -28,7 +28,7 @@ impl From<Result<u32, Refusal>> for Answer {
     }
 }
 
-// And a float.
+// And a float, as C has them.
 #[repr(C)]
 #[derive(Clone, Copy)]
 pub struct Valued {
@@ -57,7 +57,7 @@ impl From<Result<(u32, f32), Refusal>> for Valued {
     }
 }
 
-// The float of a call that has no frames.
+// The float of a call that has no frames, as C has it.
 #[repr(C)]
 #[derive(Clone, Copy)]
 pub struct Value {

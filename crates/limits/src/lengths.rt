@@ -1,5 +1,5 @@
 // Lines 7 and 8 of the table: how long buffers are asked to be.
-ghost use Rattle.std.specs.Prelude.{◌≡◌, ◌≤◌, length};
+ghost use Rattle.std.specs.Prelude.{◌≡◌, ◌≤◌};
 ghost use Rattle.limits.specs.Lengths.{spans_of, host_length, rendered_length, span_length, pairs_length, carry_length, last_length, state_length, shorter, short_lent, short_controls};
 
 // The remap curve.
@@ -26,33 +26,6 @@ pub struct ControlLengths {
     pub mod1: usize,
     pub source0: usize,
     pub source1: usize,
-}
-
-pub fn control_lengths(
-    base0: &[f32],
-    base1: &[f32],
-    mod0: &[f32],
-    mod1: &[f32],
-    source0: &[f32],
-    source1: &[f32],
-) -> ControlLengths
-    ensures { result ≡ (record {
-      base0 = length base0.entry.now;
-      base1 = length base1.now;
-      mod0 = length mod0.now;
-      mod1 = length mod1.now;
-      source0 = length source0.now;
-      source1 = length source1.now;
-    }) }
-{
-    ControlLengths {
-        base0: base0.len(),
-        base1: base1.len(),
-        mod0: mod0.len(),
-        mod1: mod1.len(),
-        source0: source0.len(),
-        source1: source1.len(),
-    }
 }
 
 // How many sub-blocks a block has.

@@ -11,8 +11,8 @@ pub mod refusal;
 pub use answers::{Answer, Value, Valued};
 pub use lengths::{
     COEFS_LENGTH, CURVE_LENGTH, CYCLE_LENGTH, ControlLengths, NUMBERS_LENGTH, SUB_BLOCK,
-    carry_length, control_lengths, controls_short, host_length, last_length, pairs_length,
-    rendered_length, short, span_length, spans_of, state_length,
+    carry_length, controls_short, host_length, last_length, pairs_length, rendered_length, short,
+    span_length, spans_of, state_length,
 };
 pub use lines::{
     asked_bad, check_lines, counts_bad, factor_bad, frame_bad, frames_bad, lane_bad, lanes_bad,

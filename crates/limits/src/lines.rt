@@ -61,7 +61,8 @@ fn rendered(factor: u32, count: u32) -> u64
     count as u64 * factor as u64
 }
 
-// Line 4, for a call about a single rendered frame of a range.
+// Line 4, for a call about a single rendered frame of a range. The numbers are a call's own, tested before anything is
+// made of them.
 pub fn frame_bad(factor: u32, frames: u32, first: u32, count: u32, frame: u32) -> bool
     ensures { result ≡ bad_frame factor frames first count frame }
 {

@@ -1,5 +1,5 @@
 -- `lengths::span_length` meets its contract: the product of two numbers below 2^32 fits.
-use Prim.Native.Nat.{◌*◌, ◌≤◌}
+use Prim.Native.Nat.{◌≤◌}
 use native.Mathlib.Nat.{mul-le-mul}
 use native.Mathlib.Omega.{arith}
 use Rattle.limits.specs.Lengths.{spans_of}
