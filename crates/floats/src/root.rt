@@ -111,34 +111,25 @@ fn guess(fraction: u32, even: u32) -> u64
     f64::to_bits(in_range(root + 4503599627370496.0)) % 0x1_0000_0000
 }
 
-// The whole number nearest the root of n, from any guess.
-fn search(n: u64, near: u64) -> u64
-    requires fact_1 { (2 ^ 46 ≤ n) × (n ≤ 2 ^ 48 - 2 ^ 24) }
-    requires fact_2 { near < 2 ^ 32 }
+// The whole number nearest the root of n.
+fn rounded_root(n: u64) -> u64
+    requires { (2 ^ 46 ≤ n) × (n ≤ 2 ^ 48 - 2 ^ 24) }
     ensures { NearestRoot n result }
 {
-    let mut r = near;
-    while n + r <= r * r {
-        r -= 1;
-    }
-    while r * r + r < n {
-        r += 1;
-    }
-    r
+    let r = n.isqrt();
+    if r * r + r < n { r + 1 } else { r }
 }
 
-// The same. Almost every guess is the number, and then the result waits for no test.
+// The same, by a guess. All but one guess in 365 is the number, and then the result waits for no loop.
 fn nearest_root(n: u64, near: u64) -> u64
     requires fact_1 { (2 ^ 46 ≤ n) × (n ≤ 2 ^ 48 - 2 ^ 24) }
     requires fact_2 { near < 2 ^ 32 }
     ensures { NearestRoot n result }
 {
-    if near * near < n + near {
-        if n <= near * near + near {
-            return near;
-        }
+    if near * near < n + near && n <= near * near + near {
+        return near;
     }
-    search(n, near)
+    rounded_root(n)
 }
 
 // The pattern of the root of m × 2^j smallest values, where m has 24 digits. Moved up by 23 or 24

@@ -1,7 +1,6 @@
 -- `floats::cast_usize` meets its contract.
 use mathlib.Core.Path.{◌≡◌, ap, ◌∙◌, subst}
-use Prim.Native.Nat.{ℕ, ◌-◌, ◌*◌, ◌/◌, ◌≤◌, ◌<◌, min}
-use native.Mathlib.Nat.{mul-le-mul_left, mul-one}
+use Prim.Native.Nat.{◌-◌, ◌*◌, ◌/◌, ◌<◌, min}
 use native.Mathlib.Omega.{arith}
 use lib.Ieee.{Float, to_unsigned}
 use Rattle.floats.proofs.Casts.{whole_of, unsigned_of_nan, unsigned_small, unsigned_large}

@@ -1,6 +1,5 @@
 -- `floats::whole_part` meets its contract.
-use native.Mathlib.Omega.{arith}
-use Rattle.floats.proofs.Casts.{digits_lt, whole_part_is}
+use Rattle.floats.proofs.Casts.{whole_part_is}
 use Rattle.floats.proofs.cast.whole_part.Goals as goal
 
 pub returns : goal.returns

@@ -6,7 +6,6 @@ use native.Mathlib.Omega.{arith}
 use lib.ListN.{get_or}
 use Rattle.floats.specs.Exp2.{entry_of}
 use Rattle.floats.proofs.Mixing.{Mixed, at, powers}
-use Rattle.floats.proofs.Entries.{range}
 use Rattle.floats.proofs.Patterns.{made}
 use Rattle.floats.proofs.power.power_bits.Goals as goal
 use Rattle.floats.proofs.power.power_bits.Goals.{After-power_table-powers}

@@ -2,7 +2,6 @@
 use mathlib.Core.Path.{◌≡◌, refl}
 use mathlib.Core.Bool.{false}
 use lib.Ieee.{binary64, of_bits, is_nan}
-use Rattle.floats.proofs.Nan.{above_no_nan}
 use Rattle.floats.proofs.root.in_range.Goals as goal
 
 least : is_nan (of_bits binary64 4841369599431671808) ≡ false
