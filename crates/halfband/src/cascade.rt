@@ -40,6 +40,7 @@ pub fn decimate_lane(
     ensures { Each lane.lanes lane.index (lane.index + 1) (λ _. lane_part designs.now stages frames)
         (views floats lane.lanes buffer.old state.old) (views floats lane.lanes buffer.new state.new) }
 {
+    // By number and not by design: the number is also the block of the state, and how often the frames double.
     for from_last in (0..stages).rev() {
         stage(
             &designs.stages[from_last],
@@ -67,6 +68,7 @@ fn decimate_lanes(
     ensures { Each lanes 0 active (λ _. lane_part designs.now stages frames)
         (views floats lanes buffer.old state.old) (views floats lanes buffer.new state.new) }
 {
+    // A lane is made of its number: there is no list of lanes to go through.
     for index in 0..active {
         decimate_lane(
             designs,

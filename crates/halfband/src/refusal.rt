@@ -1,7 +1,6 @@
 // When a decimation is turned down.
-ghost use Rattle.std.specs.Prelude.{◌≡◌, false, ◌||◌, ◌≤◌, slice_index};
+ghost use Rattle.std.specs.Prelude.{◌≡◌, false, slice_index};
 ghost use Rattle.limits.specs.Lines.{first_of, number_lines, bad_factor, bad_lanes, bad_frames, bad_counts};
-ghost use Rattle.limits.specs.Lengths.{rendered_length, state_length, shorter};
 ghost use Rattle.limits.specs.Refusals.{number_of};
 ghost use Rattle.halfband.specs.Refusal.{refusal};
 
@@ -33,17 +32,6 @@ pub fn check_numbers(call: CallNumbers, counts: [u32; 3]) -> Result<(), Refusal>
     ])
 }
 
-// Line 8.
-fn written_short(call: CallNumbers, buffer: usize, state: usize) -> bool
-    requires { (call.frames ≤ 4096) × (call.factor ≤ 8) × (call.lanes ≤ 64) }
-    ensures { result ≡ (shorter (rendered_length call.frames call.factor call.lanes) buffer || shorter (state_length call.lanes) state) }
-{
-    short(
-        rendered_length(call.frames, call.factor, call.lanes),
-        buffer,
-    ) | short(state_length(call.lanes), state)
-}
-
 // The first line that holds. `coefs`, `buffer` and `state` are the lengths of what is lent.
 #[tactic(auto, unfolding(limits::specs::Lines::first_of, limits::specs::Refusals::number_of, limits::specs::Refusals::line_of, crate::specs::Refusal::refusal))]
 pub fn check(
@@ -56,11 +44,10 @@ pub fn check(
     ensures { number_of result ≡ refusal call.factor call.lanes call.active call.frames (slice_index counts 0) (slice_index counts 1) (slice_index counts 2) coefs buffer state }
 {
     check_numbers(call, counts)?;
-    if short(COEFS_LENGTH, coefs) {
-        return Err(Refusal::ShortRead);
-    }
-    if written_short(call, buffer, state) {
-        return Err(Refusal::ShortWrite);
-    }
-    Ok(())
+    let rendered = rendered_length(call.frames, call.factor, call.lanes);
+    let is_short = short(rendered, buffer) | short(state_length(call.lanes), state);
+    check_lines(&[
+        (short(COEFS_LENGTH, coefs), Refusal::ShortRead),
+        (is_short, Refusal::ShortWrite),
+    ])
 }

@@ -32,6 +32,8 @@ fn frame<const COUNT: usize>(coefs: &[f32; 12], early: f32, late: f32, cells: &m
 }
 
 // `frames` output frames from twice as many. The compiler knows the count, and lays the sections out in a row.
+// What it asks of the count and the rows stands here, in `run_counted` and in `stage`: a `Design` that promised its count
+// would ask more of whoever makes one, and a struct around `buffer`, lent to be changed, would stand in every clause.
 fn run<const COUNT: usize>(
     design: &Design,
     frames: usize,
@@ -45,6 +47,7 @@ fn run<const COUNT: usize>(
     ensures { Run (sections_of design.now) lane.lanes lane.index frames
         buffer.old cells.old buffer.new cells.new }
 {
+    // In place, where no iterator can go: row k is written while rows from 2k on are still to be read.
     for k in 0..frames {
         let early = buffer[lane.place(2 * k)];
         let late = buffer[lane.place(2 * k + 1)];

@@ -206,3 +206,8 @@ handed_on (Err x) e h = rw h
 pub by_numbers : {A : Type 0} (r : Result A Refusal) (e : Refusal) (number : ℕ) (g h : Bool) → IsErrAnd r (λ x. x ≡ e)
     → number_of {A = Unit {0}} (Err e) ≡ number → number_of r ≡ then_lengths number g h
 by_numbers r e number g h handed is = rw (ne_eqb number 0 (λ z. some_number e (is ∙ z))) (handed_on r e handed ∙ is)
+
+-- lines 7 and 8 alone, for a call that lines 1 to 6 let pass
+pub last_lines : (g h : Bool) → first_of (numbered ((g, Refusal.ShortRead) ∷ (h, Refusal.ShortWrite) ∷ [])) ≡ then_lengths 0 g h
+unfolding first_of line_of
+last_lines g h = refl
