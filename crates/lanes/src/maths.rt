@@ -13,7 +13,8 @@ const LOG2_E: f32 = 1.442695;
 
 const LN_2: f32 = 0.6931472;
 
-// The numbers of the sine's and the arctangent's polynomials, `SIN` and `ATAN` of the Rust.
+// The numbers of the sine's and the arctangent's polynomials, `SIN` and `ATAN` of the Rust, as C lends them. The two
+// arrays have nothing to do with one another: no number of one belongs to one of the other.
 #[repr(C)]
 #[derive(Clone, Copy)]
 pub struct Numbers {
@@ -68,6 +69,7 @@ pub fn above(x: f32) -> f32
 }
 
 // -1, or 1 for positive numbers and +0.
+#[tactic(auto, unfolding(crate::specs::Maths::sign_of), using(floats::specs::Steps::steps))]
 pub fn sign(x: f32) -> f32
     ensures { result ≡ sign_of x }
 {
@@ -75,6 +77,7 @@ pub fn sign(x: f32) -> f32
 }
 
 // `x` clamped to `lo..=hi`.
+#[tactic(auto, unfolding(crate::specs::Maths::clamp_of), using(floats::specs::Steps::steps))]
 pub fn clamp(x: f32, lo: f32, hi: f32) -> f32
     ensures { result ≡ clamp_of x lo hi }
 {
@@ -82,6 +85,7 @@ pub fn clamp(x: f32, lo: f32, hi: f32) -> f32
 }
 
 // The C2 step from 0 to 1 as `t` goes from 0 to 1, clamped outside: 6t^5 - 15t^4 + 10t^3.
+#[tactic(auto, unfolding(crate::specs::Maths::smoothstep_of), using(floats::specs::Steps::steps))]
 pub fn smoothstep(t: f32) -> f32
     ensures { result ≡ smoothstep_of t }
 {
@@ -90,15 +94,15 @@ pub fn smoothstep(t: f32) -> f32
 }
 
 // The polynomial with the coefficients `k` at `x2`, from the last coefficient down.
-#[tactic(auto, unfolding(crate::specs::Maths::horner))]
+#[tactic(auto, using(crate::proofs::Polynomials::left_all, crate::proofs::Polynomials::left_less))]
 fn polynomial(k: &[f32], x2: f32) -> f32
     requires { 0 < length k.now }
     ensures { result ≡ horner k.now x2 (length k.now - 1) (slice_index_or k.now (length k.now - 1) nan) }
 {
     let last = k.len() - 1;
     let mut p = k[last];
-    for i in (0..last).rev() {
-        p = p * x2 + k[i];
+    for c in k[..last].iter().rev() {
+        p = p * x2 + *c;
     }
     p
 }
@@ -127,6 +131,7 @@ pub fn cos_cycles(numbers: Numbers, t: f32) -> f32
 }
 
 // The tangent of half the angle whose tangent is `x`.
+#[tactic(auto, unfolding(crate::specs::Maths::half_of), using(floats::specs::Steps::steps))]
 fn half(x: f32) -> f32
     ensures { result ≡ half_of x }
 {
@@ -145,6 +150,7 @@ pub fn atan(numbers: Numbers, x: f32) -> f32
 }
 
 // tanh x: 1 - 2 / (1 + e^2x), with x clamped to ±9.
+#[tactic(auto, unfolding(crate::specs::Maths::tanh_of), using(floats::specs::Steps::steps))]
 pub fn tanh(x: f32) -> f32
     ensures { result ≡ tanh_of x }
 {
@@ -176,6 +182,7 @@ fn ln_series(t2: f32) -> f32
 
 // ln x for positive normal `x`: the exponent times ln 2, plus 2 atanh((m - 1) / (m + 1)) of the
 // mantissa. Of any other number what the same steps give; of a NaN it is NaN.
+#[tactic(auto, unfolding(crate::specs::Maths::ln_of), using(floats::specs::Steps::steps))]
 pub fn ln(x: f32) -> f32
     ensures { result ≡ ln_of x }
 {
@@ -188,6 +195,7 @@ pub fn ln(x: f32) -> f32
 }
 
 // ln cosh x, without overflow: |x| + ln(1 + e^-2|x|) - ln 2.
+#[tactic(auto, unfolding(crate::specs::Maths::ln_cosh), using(floats::specs::Steps::steps))]
 pub fn ln_cosh(x: f32) -> f32
     ensures { result ≡ ln_cosh x }
 {
@@ -196,6 +204,7 @@ pub fn ln_cosh(x: f32) -> f32
 }
 
 // tan x for 0 <= x <= 1.45: sin over cos.
+#[tactic(auto, unfolding(crate::specs::Maths::tan_of), using(floats::specs::Steps::steps))]
 pub fn tan(numbers: Numbers, x: f32) -> f32
     ensures { result ≡ tan_of numbers.sin x }
 {

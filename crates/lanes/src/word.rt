@@ -1,5 +1,5 @@
 // Phase words: 2^32 is one cycle.
-ghost use Rattle.std.specs.Prelude.{◌≡◌, ◌-◌, ◌*◌, ◌%◌, ◌^◌, ◌<◌, length};
+ghost use Rattle.std.specs.Prelude.{◌≡◌, ◌<◌, length};
 ghost use Rattle.lanes.specs.Word.{add_words, pick_word, signed_of, to_word, lookup_of};
 
 use crate::lane::min;
@@ -14,32 +14,15 @@ const TWO_32: f32 = 4294967296.0;
 pub fn add_words(a: u32, b: u32) -> u32
     ensures { result ≡ add_words a b }
 {
-    std::num::wrapping_add_u32(a, b)
-}
-
-#[tactic(auto, unfolding(crate::specs::Word::add_words))]
-fn sub_words(b: u32, a: u32) -> u32
-    ensures { result ≡ add_words b (2 ^ 32 - a) }
-{
-    if a <= b {
-        b - a
-    } else {
-        0xffff_ffff - (a - b) + 1
-    }
-}
-
-fn mul_words(a: u32, b: u32) -> u32
-    ensures { result ≡ a * b % 2 ^ 32 }
-{
-    ((a as u64) * (b as u64) % 0x1_0000_0000) as u32
+    a.wrapping_add(b)
 }
 
 // `b` where `mask` is 1, `a` where it's 0.
-#[tactic(auto, unfolding(crate::specs::Word::pick_word))]
+#[tactic(auto, unfolding(crate::specs::Word::pick_word, crate::specs::Word::add_words))]
 pub fn pick_word(mask: f32, a: u32, b: u32) -> u32
     ensures { result ≡ pick_word mask a b }
 {
-    add_words(a, mul_words(sub_words(b, a), cast_word(mask)))
+    a.wrapping_add(b.wrapping_sub(a).wrapping_mul(cast_word(mask)))
 }
 
 // A phase word read as a signed fraction of a cycle, -1/2 to 1/2.
@@ -51,6 +34,7 @@ pub fn signed(word: u32) -> f32
 }
 
 // Cycles `x` (any number within ±2^23) wrapped to a phase word.
+#[tactic(auto, unfolding(crate::specs::Word::to_word), using(floats::specs::Steps::steps))]
 pub fn to_word(x: f32) -> u32
     ensures { result ≡ to_word x }
 {
