@@ -10,6 +10,7 @@ ghost use Rattle.floats.specs.Pattern.{significand_of, exponent_of};
 // The whole part of the positive f32 below 2^64 with the pattern b. With the significand at the top
 // of a u64, an exponent field of 190 takes it down by no place, one of 127, for 1 to 2, by 63. Below
 // 1 the significand counts as 0.
+#[tactic(auto, using(crate::proofs::Casts::whole_part_is))]
 fn whole_part(b: u32) -> u64
     requires { b < 0x5f80_0000 }
     ensures { result ≡ significand_of b * 2 ^ exponent_of b / 2 ^ 149 }
@@ -22,6 +23,7 @@ fn whole_part(b: u32) -> u64
 
 // The same below 2^31, and quicker. One place lower in the u64, the significand of a number below 1
 // goes out by 63 places, so that no more are needed.
+#[tactic(auto, using(crate::proofs::Casts::short_part_is))]
 fn short_part(b: u32) -> u64
     requires { b < 0x4f00_0000 }
     ensures { result ≡ significand_of b * 2 ^ exponent_of b / 2 ^ 149 }
@@ -54,6 +56,7 @@ pub fn cast_word(x: f32) -> u32
 
 // `x as usize`. A pattern with the sign set counts as that of 0, and 0x5f7f_ffff is that of the
 // largest f32 below 2^64.
+#[tactic(auto, using(crate::proofs::Casts::unsigned_of_nan, crate::proofs::Casts::unsigned_small, crate::proofs::Casts::unsigned_large, crate::proofs::Nan::is_nan_lem, crate::proofs::Nan::no_nan_T, crate::proofs::Read::read, crate::proofs::Read::bits_lt, crate::proofs::Read::read_no_nan))]
 pub fn cast_usize(x: f32) -> usize
     ensures { result ≡ to_unsigned 64 x }
 {
@@ -73,6 +76,7 @@ pub fn cast_usize(x: f32) -> usize
 // `n as f32`. From 2^39 on the patterns of f32 count 65,536s, from 2^23 on ones: so both halves of n
 // become floats by a sum of whole numbers. 2^39 and 2^23 come off exactly, and only the last sum
 // rounds.
+#[tactic(auto, using(crate::proofs::Halves::unsigned, crate::proofs::Patterns::bits_no_nan))]
 pub fn nearest_u32(n: u32) -> f32
     ensures { result ≡ of_int binary32 (pos n) }
 {
@@ -81,6 +85,7 @@ pub fn nearest_u32(n: u32) -> f32
 }
 
 // `n as i32 as f32`: 2^31 is added to n, modulo 2^32, and comes off with 2^39 and 2^23.
+#[tactic(auto, using(crate::proofs::Halves::signed, crate::proofs::Patterns::bits_no_nan))]
 pub fn nearest_i32(n: u32) -> f32
     ensures { result ≡ of_int binary32 (as_signed n) }
 {

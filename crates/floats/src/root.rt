@@ -100,6 +100,7 @@ fn in_range(s: f64) -> f64
 // 2 × f. What is worked out from the guess is right for any; a good one makes it quick. No division
 // and few steps that wait for each other: callers wait for the root. A float plus 2^52 has its
 // nearest whole number in its last digits.
+#[tactic(auto, using(crate::proofs::Patterns::wide_no_nan))]
 fn guess(fraction: u32, even: u32) -> u64
     requires { fraction < 2 ^ 23 }
     ensures { result < 2 ^ 32 }

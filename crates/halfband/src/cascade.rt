@@ -84,6 +84,7 @@ fn decimate_lanes(
 // Decimates `buffer` in place by the call's factor: it holds frames × factor rows of `lanes` lanes, and
 // afterwards its first `frames` rows are the result. Lanes from `active` on are left alone. An accepted
 // call's frames.
+#[tactic(auto, unfolding(limits::specs::Refusals::number_of, limits::specs::Refusals::answer_of), using(crate::proofs::RefusalLaws::taken_of))]
 pub fn process(
     designs: Designs,
     call: CallNumbers,
