@@ -63,12 +63,14 @@ impl<'a> Curve<'a> {
 }
 
 // `Curve::value` and `Curve::steepest` of a table that may be too short.
+#[tactic(auto, using(crate::proofs::Answers::refuses, crate::proofs::Answers::accepts))]
 pub fn value(values: &[f32], x: f32) -> Result<f32, Refusal>
     ensures { value_answer result ≡ answered values.now (value_of values.now x) }
 {
     Ok(Curve::new(values)?.value(x))
 }
 
+#[tactic(auto, using(crate::proofs::Answers::refuses, crate::proofs::Answers::accepts))]
 pub fn steepest(values: &[f32]) -> Result<f32, Refusal>
     ensures { value_answer result ≡ answered values.now (steepest_of values.now) }
 {

@@ -13,7 +13,7 @@ use std::array;
 use wave::{blend_rectified, curve_all, drive};
 
 // How many amounts there are: 0 to 10,000 hundredths of a percent.
-const AMOUNTS: u32 = 10001;
+pub const AMOUNTS: u32 = 10001;
 
 // How many of them are tried at a time: so many fit in a small array, and few are tried in vain past the
 // one that serves.
@@ -71,6 +71,7 @@ impl Search {
     fn least_curved(self) -> Option<u32>
         ensures { result ≡ least_of amounts (curved_at self.numbers.sin self.mode self.sample self.wanted self.tolerance) }
     {
+        // Not `find_map`: that each number of `step_by` is an amount, which the closure asks, was not proved.
         for from in (0..AMOUNTS).step_by(PART) {
             if let Some(at) = self.part_within(from) {
                 // The last part goes past the most.
