@@ -1,4 +1,4 @@
--- The patch file's format: its numbers, a record, and a xs lines 9, 10 and 11. Definitions only.
+-- The patch file's format: its numbers, a record, and a record's lines 9, 10 and 11. Definitions only.
 use Rattle.std.specs.Prelude.{◌≡◌, Bool, true, false, not, ◌||◌, ◌&&◌, List, [], ◌∷◌, ◌++◌, ℕ, ◌+◌, ◌-◌, ◌*◌, ◌/◌, ◌%◌, ◌<◌, ltb, eqb, length, get_or, Result, MatchResult, IfOk}
 use Rattle.limits.specs.Lines.{first_of, bad_mode}
 use Rattle.limits.specs.Refusals.{number_of}
@@ -121,7 +121,7 @@ IsSlot n r = MatchResult r (λ slot. slot_number slot ≡ n) (λ refusal. (refus
 abbrev pub bad_settings : PatchSlot → Bool
 bad_settings s = bad_mode s.mode || ltb 10000 s.hundredths || ltb 10000 s.tenthousandths
 
--- a xs kind and fields
+-- a record's kind and fields
 abbrev pub entry_as : Record → Entry
 entry_as r =
     record {

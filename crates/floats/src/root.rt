@@ -121,7 +121,7 @@ fn rounded_root(n: u64) -> u64
     if r * r + r < n { r + 1 } else { r }
 }
 
-// The same, by a guess. All but one guess in 365 is the number, and then the result waits for no loop.
+// The same, by a guess. Of 365 guesses 364 are the number, and then the result waits for no loop.
 fn nearest_root(n: u64, near: u64) -> u64
     requires fact_1 { (2 ^ 46 ≤ n) × (n ≤ 2 ^ 48 - 2 ^ 24) }
     requires fact_2 { near < 2 ^ 32 }

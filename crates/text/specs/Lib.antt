@@ -1,4 +1,5 @@
--- The definitions that contracts cite, and a scan by bytes that finds the same numbers. Their laws are in proofs/.
+-- The definitions that contracts cite, and of other ways to the same: a line in a buffer, a scan by bytes. Their laws are in proofs/.
 pub mod Lines
+pub mod Buffers
 pub mod Decimal
 pub mod Scan
