@@ -1,24 +1,41 @@
 // A line of the vectors.
-use std::num::ParseIntError;
-use std::str::FromStr;
 
-// An operation and four words, in hexadecimal.
-#[derive(Drop)]
+// A line's bytes, the newline among them.
+pub const LENGTH: usize = 39;
+
+// An operation and four words, in lower-case hexadecimal at fixed places; what stands between them is not looked at.
+#[derive(Clone, Copy)]
 pub struct Line {
     pub op: u32,
     pub words: [u32; 4],
 }
 
-impl FromStr for Line {
-    type Err = ParseIntError;
+impl Line {
+    // Of any bytes: a damaged line gives a wrong number.
+    pub fn new(bytes: [u8; LENGTH]) -> Line {
+        Line {
+            op: number(&bytes[..2]),
+            words: [
+                number(&bytes[3..11]),
+                number(&bytes[12..20]),
+                number(&bytes[21..29]),
+                number(&bytes[30..38]),
+            ],
+        }
+    }
+}
 
-    fn from_str(text: &str) -> Result<Line, ParseIntError> {
-        let mut fields = text.split(' ');
-        // Of a field that is not there no number is read.
-        let mut number = || u32::from_str_radix(fields.next().unwrap_or(""), 16);
-        Ok(Line {
-            op: number()?,
-            words: [number()?, number()?, number()?, number()?],
-        })
+fn number(digits: &[u8]) -> u32 {
+    digits
+        .iter()
+        .fold(0, |number, byte| number << 4 | digit(*byte))
+}
+
+// What is no digit counts as 0. By hand, since `to_digit` and `from_str_radix` take capitals, and the latter a sign.
+fn digit(byte: u8) -> u32 {
+    match byte {
+        b'0'..=b'9' => u32::from(byte - b'0'),
+        b'a'..=b'f' => u32::from(byte - b'a') + 10,
+        _ => 0,
     }
 }
