@@ -1,4 +1,5 @@
-// The hash of what a run gives.
+// The hash of what a run gives. `put` and its kin, here and in the files that make runs, add to a hash; they convert
+// nothing. By hand, since std's `Hash` is not of floats and its `Hasher` takes bytes, not words.
 ghost use Rattle.std.specs.Prelude.{◌≡◌};
 ghost use Rattle.answers.specs.Hash.{nothing, with_word, with_float, with_floats};
 

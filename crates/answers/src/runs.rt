@@ -52,6 +52,7 @@ pub fn put_cases<F: FnMut(&mut Random, &mut Hash)>(
     ensures { count ≡ 0 → hash.new ≡ hash.old }
 {
     let mut random = random;
+    // A count of draws: no element stands behind a turn.
     for _ in 0..count {
         step(&mut random, hash);
     }

@@ -15,7 +15,7 @@ pub fn curve_of(table: &[f32; 1025], seed: u32) -> [f32; 1025] {
     }
 }
 
-// What a call changes.
+// What a call changes. Each is lent as a slice of its own, and they differ in length: no rows of one struct.
 #[derive(Clone, Copy)]
 pub struct Voices {
     pub output: [f32; 160],
@@ -49,7 +49,7 @@ impl Voices {
     }
 }
 
-// Phase words and their steps: two buffers, as a block run is lent them.
+// Phase words and their steps: a block run is lent each as a slice of its own.
 #[derive(Clone, Copy)]
 pub struct Words {
     pub steps: [u32; 1280],

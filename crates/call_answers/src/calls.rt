@@ -88,7 +88,7 @@ impl Place {
     }
 }
 
-// A word: every other time around a quarter or a 2,048th of the cycle.
+// A word made of a draw, not converted: every other time around a quarter or a 2,048th of the cycle.
 fn word_of(how: u32, draw: u32) -> u32 {
     match how % 4 {
         0 => around(draw & 0xc000_0000, draw),

@@ -5,7 +5,7 @@ use answers::waves::{percent, sample};
 use controls::ControlSlices;
 use floats::nearest_u32;
 
-// `N` cells each of a modulation and of a source.
+// `N` cells each of a modulation and of a source. A call is lent each as a slice of its own, or has none.
 #[derive(Clone, Copy)]
 pub struct Controls<const N: usize> {
     base0: [f32; 4],

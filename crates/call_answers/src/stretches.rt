@@ -24,7 +24,7 @@ fn slope(draw: u32) -> f32 {
     }
 }
 
-// The spans of a block: `N` cells of each buffer.
+// The spans of a block: `N` cells of each buffer, which a call is lent as slices of their own.
 #[derive(Clone, Copy)]
 pub struct Spans<const N: usize> {
     pub inner: [f32; N],

@@ -1,4 +1,5 @@
-// Patch files remade from draws: right records with up to two faults among them.
+// Patch files remade from draws: right records with up to two faults among them. What is `put` is written into a
+// file's bytes; the one conversion is `Fields::bytes`.
 ghost use Rattle.std.specs.Prelude.{◌+◌, ◌<◌, ◌≤◌, length};
 
 use answers::random::Random;
@@ -48,16 +49,25 @@ impl Draws {
 
     // Both faults of a turn.
     pub fn put_faults(self, file: &mut [u8; 128]) {
-        let records = self.records();
         if let Some(fault) = Fault::of(self.how / 0x1000_0000) {
-            fault.put(self.value, record_of(self.place, records), file);
+            fault.put(self.value, self.start_of(self.place), file);
         }
         if let Some(fault) = Fault::of(self.how / 0x100_0000 % 16) {
             fault.put(
                 self.value / 0x100,
-                record_of(self.place / 0x1_0000, records),
+                self.start_of(self.place / 0x1_0000),
                 file,
             );
+        }
+    }
+
+    // Where a fault's record starts: one of the file's; with none of them, at the start.
+    fn start_of(self, place: u32) -> usize
+        ensures { result ≤ 98 }
+    {
+        match self.records() {
+            0 => 0,
+            records => RECORD * (place as usize % records),
         }
     }
 }
@@ -122,17 +132,6 @@ pub fn put_records(random: &mut Random, records: usize, file: &mut [u8; 128]) {
     }
 }
 
-// Where a fault's record starts: one of the file's; with none of them, at the start.
-fn record_of(place: u32, records: usize) -> usize
-    requires { records ≤ 8 }
-    ensures { result ≤ 98 }
-{
-    match records {
-        0 => 0,
-        _ => RECORD * (place as usize % records),
-    }
-}
-
 // What a fault makes wrong.
 #[derive(Clone, Copy)]
 enum Fault {
@@ -144,18 +143,20 @@ enum Fault {
     Character,
 }
 
+// In the order of the draws that make them.
+const FAULTS: [Fault; 6] = [
+    Fault::Length,
+    Fault::Kind,
+    Fault::Slot,
+    Fault::Mode,
+    Fault::Amount,
+    Fault::Character,
+];
+
 impl Fault {
     // From 6 on there is no fault.
     fn of(draw: u32) -> Option<Fault> {
-        match draw {
-            0 => Some(Fault::Length),
-            1 => Some(Fault::Kind),
-            2 => Some(Fault::Slot),
-            3 => Some(Fault::Mode),
-            4 => Some(Fault::Amount),
-            5 => Some(Fault::Character),
-            _ => None,
-        }
+        FAULTS.get(draw as usize).copied()
     }
 
     // Where its two bytes stand in the record.

@@ -14,7 +14,7 @@ use text::Line;
 // The lines that are read at the most.
 const LINES: u64 = 1000;
 
-// Prints what the table has for a line.
+// Prints what the table has for a line, by its `Display`.
 fn print_entry(rt: &impl Print, number: u64, line: &[u8]) -> io::Result<()> {
     let plans = line_plan(line);
     rt.print(Entry { number, plans })

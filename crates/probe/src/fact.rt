@@ -1,4 +1,5 @@
-// The mode facts for C, which hears numbers: 256 and the refusal's number for one that is refused.
+// The mode facts for C, which hears a kind by its number: 256 and the refusal's number for one that is refused. So the
+// functions here answer numbers, made of the enums of `modes` where C is met and nowhere before.
 ghost use Rattle.std.specs.Prelude.{◌≡◌, ◌+◌, MatchResult};
 ghost use Rattle.std.specs.Result.{ForOk};
 ghost use Rattle.limits.specs.Refusals.{line_of};
@@ -20,19 +21,21 @@ fn coded<T, F: FnOnce(T) -> u32>(fact: Result<T, Refusal>, number: F) -> u32
     }
 }
 
-// Nothing is 0.
+// For C: the discriminant, and 0 for nothing.
 fn source_number(source: Option<Source>) -> u32
     ensures { result ≡ source_code source }
 {
     source.map_or(0, |source| source as u32)
 }
 
+// For C: the discriminant, and 0 for nothing.
 fn fm_type_number(fm_type: Option<FmType>) -> u32
     ensures { result ≡ fm_type_code fm_type }
 {
     fm_type.map_or(0, |fm_type| fm_type as u32)
 }
 
+// For C, and 0 for nothing: FM carries its type, so that there is no discriminant to cast.
 fn modulated_number(modulated: Option<Modulated>) -> u32
     ensures { result ≡ modulated_code modulated }
 {
@@ -45,6 +48,7 @@ fn modulated_number(modulated: Option<Modulated>) -> u32
     }
 }
 
+// For C: a source by its number.
 #[unsafe(no_mangle)]
 pub extern "C" fn probe_source(mode: u32) -> u32
     ensures { result ≡ code_of source_code (source_of mode) }
@@ -52,6 +56,7 @@ pub extern "C" fn probe_source(mode: u32) -> u32
     coded(modes::source(mode), source_number)
 }
 
+// For C: an FM type by its number.
 #[unsafe(no_mangle)]
 pub extern "C" fn probe_fm_type(mode: u32) -> u32
     ensures { result ≡ code_of fm_type_code (fm_type_of mode) }
@@ -59,6 +64,7 @@ pub extern "C" fn probe_fm_type(mode: u32) -> u32
     coded(modes::fm_type(mode), fm_type_number)
 }
 
+// For C: what is modulated, by its number.
 #[unsafe(no_mangle)]
 pub extern "C" fn probe_modulated(mode: u32) -> u32
     ensures { result ≡ code_of modulated_code (modulated_of mode) }
@@ -66,6 +72,7 @@ pub extern "C" fn probe_modulated(mode: u32) -> u32
     coded(modes::modulated(mode), modulated_number)
 }
 
+// For C: a stage by its number.
 #[unsafe(no_mangle)]
 pub extern "C" fn probe_stage(mode: u32) -> u32
     ensures { result ≡ code_of stage_code (stage_of mode) }

@@ -219,7 +219,8 @@ pub extern "C" fn probe_lookup(table: &[f32], x: f32) -> f32
     }
 }
 
-// One of the leaves that read the table of powers, by C's number; `x` for any other number.
+// One of the leaves that read the table of powers, by C's number; `x` for any other number. A list of functions would
+// have the same rows, and be a list of pointers.
 #[tactic(auto, unfolding(crate::specs::Leaves::powers_leaf))]
 fn powers_leaf(leaf: u32, x: f32) -> f32
     ensures { result ≡ powers_leaf leaf x }

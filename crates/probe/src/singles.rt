@@ -1,4 +1,5 @@
-// The calls about a single lane at a single rendered frame.
+// The calls about a single lane at a single rendered frame. C gives a call's numbers and its buffers one by one, so the
+// exports' parameters are no structs.
 ghost use Rattle.std.specs.Prelude.{◌≡◌};
 ghost use Rattle.voice.specs.PhaseRun.{fm_exponential};
 ghost use Rattle.controls.specs.Controls.{control_buffers};
@@ -19,7 +20,7 @@ pub extern "C" fn probe_fm_exponential(s: f32) -> f32
     voice::fm_exponential(s)
 }
 
-// C gives a call's numbers one by one.
+// Of C's numbers, for both exports.
 fn settings(
     mode0: u32,
     mode1: u32,

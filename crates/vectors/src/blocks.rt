@@ -45,6 +45,7 @@ pub fn block_hash<F: Fn(&Asked<'_>, &mut Voices) -> Option<Result<u32, Refusal>>
     let active = active_of(d.sizes, s.lanes);
     spans.prepare(&mut hash, s, active, block.rate, &controls, &curve);
     let mut first = 0;
+    // A count of draws: no element stands behind a turn.
     for _ in 0..run.count {
         let d = Draws::new(&mut random);
         let fault = fault_of_block(d.how);

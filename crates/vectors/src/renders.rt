@@ -70,6 +70,7 @@ pub fn by_lanes(asked: &Asked<'_>, voices: &mut Voices) -> Option<Result<u32, Re
     }
     let mut alike = true;
     let mut outcome = None;
+    // A lane is what a call is asked, and no index.
     for lane in (0..asked.active).rev() {
         let next = Some(run(asked, Some(lane), voices));
         alike = alike && (outcome == None || outcome == next);
