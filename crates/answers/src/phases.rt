@@ -82,6 +82,7 @@ fn word(how: u32, draw: u32, amount: u32) -> u32 {
 
 // The read list of two slots, without offsets, at drawn amounts: slot 1 maps first, then slot 0 with half
 // width times `inner`.
+#[tactic(auto, using(reads::proofs::Few::start_few, phase::proofs::Few::apply_few))]
 fn drawn_reads(table: &[f32; 1025], run: ModesRun, random: &mut Random) -> LaneReads {
     let seed = run.seed;
     let [

@@ -47,6 +47,7 @@ pub extern "C" fn probe_stretch(mode: u32, amount: f32, curve: f32) -> Value
 
 // The read list of two slots without offsets: slot 1 maps first, then slot 0 with half width times
 // `inner`.
+#[tactic(auto, using(reads::proofs::Few::start_few, reads::proofs::Few::outgoing_few, phase::proofs::Few::apply_few))]
 fn reads(tables: Tables<'_>, slots: Slots, half: f32, inner: f32, word: u32) -> LaneReads
     ensures value { result ≡ reads_of tables.entry.numbers.sin tables.entry.numbers.atan tables.entry.curve.values.now slots half inner word }
     ensures count_bound { result.count ≤ 4 }
