@@ -7,7 +7,7 @@ mod table;
 
 use planning::line_plan;
 use std::io;
-use std::io::{BufReader, Read};
+use std::io::Read;
 use table::{Entry, HEADING};
 use text::Line;
 
@@ -24,7 +24,8 @@ fn main(rt: HostRuntime) -> io::Result<()> {
     rt.print(HEADING)?;
     let mut line = Line::new();
     let mut number = 1;
-    for byte in BufReader::new(rt.alloc(), rt.stdin())?.bytes() {
+    // With no buffer, so that no memory is asked for; the input is short.
+    for byte in rt.stdin().bytes() {
         // An input that cannot be read ends there, and what came of its last line is dropped.
         let Ok(byte) = byte else {
             return rt.println("the input cannot be read any further");
