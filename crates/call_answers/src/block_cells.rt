@@ -39,6 +39,7 @@ impl Voices {
         }
     }
 
+    // Cell by cell, since std hashes no floats.
     pub fn put_to(&self, hash: &mut Hash) {
         hash.put_floats(&self.output);
         hash.put_floats(&self.work);

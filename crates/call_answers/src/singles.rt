@@ -1,5 +1,6 @@
 // Runs of the calls about one lane: their buffers and then their calls are remade from a seed, the calls
-// one after the other on the same buffers, and a hash takes what each answers and leaves.
+// one after the other on the same buffers, and a hash takes what each answers and leaves, field by field: C's structs
+// hold floats, which std hashes none of.
 use crate::calls::Call;
 use crate::drawn_controls::Controls;
 use crate::faults::{Fault, cut, cut_mut};

@@ -66,7 +66,7 @@ fn prepare(
 }
 
 impl<const N: usize> Spans<N> {
-    // What a call answers and the spans that it leaves.
+    // What a call answers and the spans that it leaves, cell by cell as in singles.rt.
     fn put_to(&self, hash: &mut Hash, a: Answer) {
         hash.put(a.number);
         hash.put(a.frames);

@@ -1,5 +1,6 @@
 // Runs of patch files: each turn makes a file from the seed, reads it, writes the patch and compares both
-// files, and a hash takes the answers. The bytes stay as the turns before it have left them.
+// files, and a hash takes the answers, field by field: C's structs hold floats, which std hashes none of. The bytes stay
+// as the turns before it have left them.
 ghost use Rattle.std.specs.Prelude.{◌≤◌};
 
 use crate::drawn::{Draws, put_records};
