@@ -12,7 +12,7 @@ const KEPT: usize = 255;
 
 // A line as it is read: the bytes that are kept of it, and whether its end has come. A flag and no `Option`: the bytes
 // are there before the end as well as after it.
-#[derive(Drop)]
+#[derive(Clone, Drop)]
 pub struct Line {
     kept: ArrayVec<u8, KEPT>,
     has_ended: bool,

@@ -6,7 +6,7 @@ pub const LENGTH: usize = 39;
 // An operation and four words, in lower-case hexadecimal at fixed places; what stands between them is not looked at.
 #[derive(Clone, Copy)]
 pub struct Line {
-    pub op: u32,
+    pub op: u8,
     pub words: [u32; 4],
 }
 
@@ -14,7 +14,7 @@ impl Line {
     // Of any bytes: a damaged line gives a wrong number.
     pub fn new(bytes: [u8; LENGTH]) -> Line {
         Line {
-            op: number(&bytes[..2]),
+            op: digit(bytes[0]) << 4 | digit(bytes[1]),
             words: [
                 number(&bytes[3..11]),
                 number(&bytes[12..20]),
@@ -28,14 +28,14 @@ impl Line {
 fn number(digits: &[u8]) -> u32 {
     digits
         .iter()
-        .fold(0, |number, byte| number << 4 | digit(*byte))
+        .fold(0, |number, byte| number << 4 | u32::from(digit(*byte)))
 }
 
 // What is no digit counts as 0. By hand, since `to_digit` and `from_str_radix` take capitals, and the latter a sign.
-fn digit(byte: u8) -> u32 {
+fn digit(byte: u8) -> u8 {
     match byte {
-        b'0'..=b'9' => u32::from(byte - b'0'),
-        b'a'..=b'f' => u32::from(byte - b'a') + 10,
+        b'0'..=b'9' => byte - b'0',
+        b'a'..=b'f' => byte - b'a' + 10,
         _ => 0,
     }
 }

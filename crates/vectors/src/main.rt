@@ -97,8 +97,9 @@ fn hashed_by_lanes(table: &[f32; 1025], words: [u32; 2]) -> Hashed {
 // One line: an answer, or a run of random ones.
 fn replay(table: &[f32; 1025], line: Line) -> Tally {
     let [a, b, c, d] = line.words;
-    let Some(op) = line.op.checked_sub(0x80) else {
-        return Tally::one(answer(table, line.op, [a, b, c]) == d);
+    let op = u32::from(line.op);
+    let Some(op) = op.checked_sub(0x80) else {
+        return Tally::one(answer(table, op, [a, b, c]) == d);
     };
     let hash = (u64::from(c) << 32) + u64::from(d);
     let run = Tally::whole(hashed(table, op, [a, b]), hash);
