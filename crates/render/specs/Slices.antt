@@ -3,6 +3,7 @@ use Rattle.std.specs.Prelude.{List, Float}
 use Rattle.controls.specs.Slices.{control_lists}
 use Rattle.render.specs.declared.lent.Rows.{Rows}
 use Rattle.render.specs.declared.lent.LentSlices.{LentSlices}
+use Rattle.render.specs.declared.lent.AcceptedSlices.{AcceptedSlices}
 use Rattle.render.specs.Lane.{Lent}
 
 -- rows beside a curve and a cycle
@@ -16,6 +17,9 @@ rows_with r curve cycle =
       steps = r.steps.now;
       inner = r.inner.now;
     }
+
+abbrev pub accepted_lists : AcceptedSlices → Lent
+accepted_lists l = rows_with l.rows l.curve.values.now l.cycle.samples.now
 
 abbrev pub lent_lists : LentSlices → Lent
 lent_lists l = rows_with l.rows l.curve.now l.cycle.now

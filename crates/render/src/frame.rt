@@ -5,7 +5,7 @@ ghost use Rattle.voice.specs.WaveRun.{has_state};
 ghost use Rattle.controls.specs.Controls.{lent_of};
 ghost use Rattle.render.specs.Frames.{frame_of, frame_at, Levelled, Powered, Framed};
 
-use crate::lent::Rows;
+use crate::lent::AcceptedSlices;
 use crate::state::{HostFrame, Stepped, Voice};
 use controls::LaneFrame;
 use curve::Curve;
@@ -13,7 +13,9 @@ use grid::Lane;
 use phase::Tables;
 use reads::Cycle;
 use shaper::Settings;
-use voice::{Control, Driven, has_state, in_phase, shape_level, shape_of, sum_of};
+use voice::{
+    Control, Driven, PhaseFrame, Slots, has_state, in_phase, shape_level, shape_of, sum_of,
+};
 
 // `frame_of` where a slot maps or has a state: it takes the sine's and the arctangent's numbers.
 fn full_frame(
@@ -21,16 +23,16 @@ fn full_frame(
     scale: f32,
     curve: Curve<'_>,
     cycle: Cycle<'_>,
-    slot0: Driven,
-    slot1: Driven,
+    slots: Slots,
     inner: f32,
     word: u32,
     step: u32,
     v: Voice,
 ) -> Stepped
-    requires own0 { slot0.slot ≡ s.slot0 }
-    requires own1 { slot1.slot ≡ s.slot1 }
-    ensures { result ≡ frame_of s scale curve.entry.values.now cycle.entry.samples.now slot0.control slot1.control inner word step v }
+    requires own0 { slots.slot0.slot ≡ s.slot0 }
+    requires own1 { slots.slot1.slot ≡ s.slot1 }
+    ensures { result ≡ frame_of s scale curve.entry.values.now cycle.entry.samples.now slots.slot0.control slots.slot1.control
+        inner word step v }
 {
     let Settings {
         factor,
@@ -38,12 +40,17 @@ fn full_frame(
         ..
     } = s;
     let tables = Tables { numbers, curve };
-    let raw = sum_of(
-        tables, cycle, slot0, slot1, factor, scale, inner, word, step, v.fm0, v.fm1,
-    );
-    let shaped = shape_of(
-        numbers, slot0, slot1, step, raw.x, v.pairs0, v.pairs1, v.last,
-    );
+    let frame = PhaseFrame {
+        factor,
+        scale,
+        inner,
+        word,
+        step,
+        fm0: v.fm0,
+        fm1: v.fm1,
+    };
+    let raw = sum_of(tables, cycle, slots, frame);
+    let shaped = shape_of(numbers, slots, step, raw.x, v.wave_state());
     Stepped {
         sample: shaped.y,
         voice: Voice {
@@ -57,13 +64,12 @@ fn full_frame(
 }
 
 // `frame_of` where no slot maps or has a state: one read, through slots that set its level at the most.
-fn level_frame(slot0: Driven, slot1: Driven, cycle: Cycle<'_>, word: u32, v: Voice) -> Stepped
-    requires stateless0 { has_state slot0.slot.mode ≡ false }
-    requires stateless1 { has_state slot1.slot.mode ≡ false }
-    ensures { Levelled result slot0.slot slot1.slot cycle.entry.samples.now slot0.control slot1.control word v }
+fn level_frame(slots: Slots, cycle: Cycle<'_>, word: u32, v: Voice) -> Stepped
+    requires stateless0 { has_state slots.slot0.slot.mode ≡ false }
+    requires stateless1 { has_state slots.slot1.slot.mode ≡ false }
+    ensures { Levelled result slots.slot0.slot slots.slot1.slot cycle.entry.samples.now slots.slot0.control slots.slot1.control word v }
 {
-    let x = cycle.read(word);
-    let shaped = shape_level(slot0, slot1, x, v.pairs0, v.pairs1, v.last);
+    let shaped = shape_level(slots, cycle.read(word), v.wave_state());
     Stepped {
         sample: shaped.y,
         voice: Voice {
@@ -83,25 +89,25 @@ fn frame_of(
     scale: f32,
     curve: Curve<'_>,
     cycle: Cycle<'_>,
-    slot0: Driven,
-    slot1: Driven,
+    slots: Slots,
     inner: f32,
     word: u32,
     step: u32,
     v: Voice,
 ) -> Stepped
-    requires own0 { slot0.slot ≡ s.slot0 }
-    requires own1 { slot1.slot ≡ s.slot1 }
-    ensures { result ≡ frame_of s scale curve.entry.values.now cycle.entry.samples.now slot0.control slot1.control inner word step v }
+    requires own0 { slots.slot0.slot ≡ s.slot0 }
+    requires own1 { slots.slot1.slot ≡ s.slot1 }
+    ensures { result ≡ frame_of s scale curve.entry.values.now cycle.entry.samples.now slots.slot0.control slots.slot1.control
+        inner word step v }
 {
-    let mode0 = slot0.slot.mode;
-    let mode1 = slot1.slot.mode;
+    let mode0 = slots.slot0.slot.mode;
+    let mode1 = slots.slot1.slot.mode;
     let mapped = in_phase(mode0) | in_phase(mode1);
     let stated = has_state(mode0) | has_state(mode1);
     if mapped | stated {
-        return full_frame(s, scale, curve, cycle, slot0, slot1, inner, word, step, v);
+        return full_frame(s, scale, curve, cycle, slots, inner, word, step, v);
     }
-    level_frame(slot0, slot1, cycle, word, v)
+    level_frame(slots, cycle, word, v)
 }
 
 // Rendered frame `sub` of host frame `host`.
@@ -113,21 +119,20 @@ pub fn frame_at(
     sub: u32,
     h: HostFrame,
     v: Voice,
-    rows: Rows<'_>,
-    curve: Curve<'_>,
-    cycle: Cycle<'_>,
+    lent: AcceptedSlices<'_>,
 ) -> Stepped
     requires powered { Powered s h }
     requires framed { Framed s lane host sub
-        (length rows.controls.source0.now) (length rows.controls.source1.now)
-        (length rows.words.now) (length rows.steps.now) }
+        (length lent.rows.controls.source0.now) (length lent.rows.controls.source1.now)
+        (length lent.rows.words.now) (length lent.rows.steps.now) }
     ensures { result ≡ frame_at s scale h
-        (lent_of s.lanes lane s.frames rows.entry.controls.source0.now) (lent_of s.lanes lane s.frames rows.entry.controls.source1.now)
-        curve.entry.values.now cycle.entry.samples.now
-        (column 0 s.lanes lane (s.frames * s.factor) rows.entry.words.now) (column 0 s.lanes lane (s.frames * s.factor) rows.entry.steps.now)
+        (lent_of s.lanes lane s.frames lent.entry.rows.controls.source0.now) (lent_of s.lanes lane s.frames lent.entry.rows.controls.source1.now)
+        lent.entry.curve.values.now lent.entry.cycle.samples.now
+        (column 0 s.lanes lane (s.frames * s.factor) lent.entry.rows.words.now) (column 0 s.lanes lane (s.frames * s.factor) lent.entry.rows.steps.now)
         host sub v }
 {
     let factor = s.factor;
+    let AcceptedSlices { rows, curve, cycle } = lent;
     let at = LaneFrame {
         lane: Lane {
             lanes: s.lanes as usize,
@@ -141,21 +146,23 @@ pub fn frame_at(
         drive1,
         inner,
     } = h;
-    let slot0 = Driven {
-        slot: s.slot0,
-        control: Control {
-            amount: drive0.amount,
-            source: at.heard(s.slot0.mode, rows.controls.source0, v.last, factor, sub),
+    let slots = Slots {
+        slot0: Driven {
+            slot: s.slot0,
+            control: Control {
+                amount: drive0.amount,
+                source: at.heard(s.slot0.mode, rows.controls.source0, v.last, factor, sub),
+            },
+            power: drive0.power,
         },
-        power: drive0.power,
-    };
-    let slot1 = Driven {
-        slot: s.slot1,
-        control: Control {
-            amount: drive1.amount,
-            source: at.heard(s.slot1.mode, rows.controls.source1, v.last, factor, sub),
+        slot1: Driven {
+            slot: s.slot1,
+            control: Control {
+                amount: drive1.amount,
+                source: at.heard(s.slot1.mode, rows.controls.source1, v.last, factor, sub),
+            },
+            power: drive1.power,
         },
-        power: drive1.power,
     };
     let rendered = at.lane.place(host * factor as usize + sub as usize);
     frame_of(
@@ -163,8 +170,7 @@ pub fn frame_at(
         scale,
         curve,
         cycle,
-        slot0,
-        slot1,
+        slots,
         inner,
         rows.words[rendered],
         rows.steps[rendered],

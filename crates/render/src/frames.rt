@@ -3,17 +3,15 @@ ghost use Rattle.std.specs.Prelude.{◌≡◌, ◌≤◌, length};
 ghost use Rattle.limits.specs.Lengths.{rendered_length};
 ghost use Rattle.render.specs.Lane.{inputs_in, first_frame, frame_count};
 ghost use Rattle.render.specs.Promises.{Readable};
-ghost use Rattle.render.specs.Slices.{rows_with};
+ghost use Rattle.render.specs.Slices.{accepted_lists};
 ghost use Rattle.render.specs.Frames.{Stills, Frames};
 
 use crate::drives::still_drive;
 use crate::host::render_host;
-use crate::lent::Rows;
+use crate::lent::AcceptedSlices;
 use crate::plain::{is_plain, read_lane};
 use crate::state::{Drive, LaneRange, Voice};
-use curve::Curve;
 use grid::Lane;
-use reads::Cycle;
 use voice::fm_scale;
 
 // The rendered frames of the range's host frames, into the work rows from the first on; the lane's
@@ -23,16 +21,14 @@ fn render_hosts(
     still0: Drive,
     still1: Drive,
     v: Voice,
-    rows: Rows<'_>,
-    curve: Curve<'_>,
-    cycle: Cycle<'_>,
+    lent: AcceptedSlices<'_>,
     work: &mut [f32],
 ) -> Voice
-    requires stills { Stills part.block.shaper part.lane rows.controls.base0.now rows.controls.base1.now still0 still1 }
-    requires readable { Readable part.block.shaper (rows_with rows curve.values.now cycle.samples.now) }
+    requires stills { Stills part.block.shaper part.lane lent.rows.controls.base0.now lent.rows.controls.base1.now still0 still1 }
+    requires readable { Readable part.block.shaper (accepted_lists lent) }
     requires writable { rendered_length part.range.count part.block.shaper.factor part.block.shaper.lanes ≤ length work.old }
     ensures { Frames part.block
-        (inputs_in part.block.shaper (rows_with rows.entry curve.entry.values.now cycle.entry.samples.now) part.lane)
+        (inputs_in part.block.shaper (accepted_lists lent.entry) part.lane)
         part.lane (first_frame part.block part.range) 0 (frame_count part.block part.range) v result work.old work.new }
 {
     let s = part.block.shaper;
@@ -53,9 +49,7 @@ fn render_hosts(
             still0,
             still1,
             state,
-            rows,
-            curve,
-            cycle,
+            lent,
             work,
         );
     }
@@ -63,18 +57,11 @@ fn render_hosts(
 }
 
 // The rendered frames of the range, into the work rows from the first on; the lane's state after them.
-pub fn render_lane(
-    part: LaneRange,
-    v: Voice,
-    rows: Rows<'_>,
-    curve: Curve<'_>,
-    cycle: Cycle<'_>,
-    work: &mut [f32],
-) -> Voice
-    requires readable { Readable part.block.shaper (rows_with rows curve.values.now cycle.samples.now) }
+pub fn render_lane(part: LaneRange, v: Voice, lent: AcceptedSlices<'_>, work: &mut [f32]) -> Voice
+    requires readable { Readable part.block.shaper (accepted_lists lent) }
     requires writable { rendered_length part.range.count part.block.shaper.factor part.block.shaper.lanes ≤ length work.old }
     ensures { Frames part.block
-        (inputs_in part.block.shaper (rows_with rows.entry curve.entry.values.now cycle.entry.samples.now) part.lane)
+        (inputs_in part.block.shaper (accepted_lists lent.entry) part.lane)
         part.lane (first_frame part.block part.range) 0 (frame_count part.block part.range) v result work.old work.new }
 {
     let s = part.block.shaper;
@@ -89,10 +76,17 @@ pub fn render_lane(
         let factor = s.factor as usize;
         let first = part.range.first as usize;
         let count = part.range.count as usize;
-        read_lane(first * factor, count * factor, at, cycle, rows.words, work);
+        read_lane(
+            first * factor,
+            count * factor,
+            at,
+            lent.cycle,
+            lent.rows.words,
+            work,
+        );
         return v;
     }
-    let still0 = still_drive(mode0, rows.controls.base0[lane]);
-    let still1 = still_drive(mode1, rows.controls.base1[lane]);
-    render_hosts(part, still0, still1, v, rows, curve, cycle, work)
+    let still0 = still_drive(mode0, lent.rows.controls.base0[lane]);
+    let still1 = still_drive(mode1, lent.rows.controls.base1[lane]);
+    render_hosts(part, still0, still1, v, lent, work)
 }

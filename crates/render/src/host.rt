@@ -6,18 +6,16 @@ ghost use Rattle.limits.specs.Lengths.{spans_of};
 ghost use Rattle.controls.specs.Controls.{lent_of};
 ghost use Rattle.render.specs.Lane.{inputs_in};
 ghost use Rattle.render.specs.Promises.{Readable};
-ghost use Rattle.render.specs.Slices.{rows_with};
+ghost use Rattle.render.specs.Slices.{accepted_lists};
 ghost use Rattle.render.specs.Frames.{host_at, Stills, Hosted, Room, Ran};
 
 use crate::drives::drive_at;
 use crate::frame::frame_at;
-use crate::lent::Rows;
+use crate::lent::{AcceptedSlices, Rows};
 use crate::state::{Drive, HostFrame, Voice};
 use controls::LaneFrame;
-use curve::Curve;
 use grid::{Lane, place};
 use limits::SUB_BLOCK;
-use reads::Cycle;
 use shaper::Settings;
 
 // What holds for all rendered frames of host frame `host`.
@@ -76,24 +74,22 @@ pub fn render_host(
     still0: Drive,
     still1: Drive,
     v: Voice,
-    rows: Rows<'_>,
-    curve: Curve<'_>,
-    cycle: Cycle<'_>,
+    lent: AcceptedSlices<'_>,
     work: &mut [f32],
 ) -> Voice
     requires room { Room s lane host row (length work.old) }
-    requires stills { Stills s lane rows.controls.base0.now rows.controls.base1.now still0 still1 }
-    requires readable { Readable s (rows_with rows curve.values.now cycle.samples.now) }
+    requires stills { Stills s lane lent.rows.controls.base0.now lent.rows.controls.base1.now still0 still1 }
+    requires readable { Readable s (accepted_lists lent) }
     ensures { Ran s scale
-        (inputs_in s (rows_with rows.entry curve.entry.values.now cycle.entry.samples.now) lane)
+        (inputs_in s (accepted_lists lent.entry) lane)
         lane (host * s.factor) row s.factor v result work.old work.new }
 {
     let n = s.lanes as usize;
-    let h = load_host(s, lane, host, still0, still1, rows);
+    let h = load_host(s, lane, host, still0, still1, lent.rows);
     let mut state = v;
     // Over a range: a rendered frame goes by its number between two host frames.
     for sub in 0..s.factor {
-        let out = frame_at(s, scale, lane, host, sub, h, state, rows, curve, cycle);
+        let out = frame_at(s, scale, lane, host, sub, h, state, lent);
         work[place(row + sub as usize, n, lane)] = out.sample;
         state = out.voice;
     }

@@ -11,5 +11,5 @@ pub mod plain;
 pub mod state;
 
 pub use frames::render_lane;
-pub use lent::{LentSlices, Rows};
+pub use lent::{AcceptedSlices, LentSlices, Rows};
 pub use state::{BlockSettings, LaneRange, Voice};

@@ -1,9 +1,10 @@
 // The settings of a block run, and what a render carries from frame to frame.
-ghost use Rattle.std.specs.Prelude.{◌<◌};
+ghost use Rattle.std.specs.Prelude.{◌≡◌, ◌<◌};
 ghost use Rattle.render.specs.Promises.{Limits};
 
 use halfband::Designs;
 use shaper::{Range, Settings};
+use voice::WaveState;
 use wave::Svf;
 
 // All numbers of a block run that belong to no lane, save its range and its count of active lanes:
@@ -33,6 +34,19 @@ pub struct Voice {
     pub fm0: f32,
     pub fm1: f32,
     pub last: f32,
+}
+
+impl Voice {
+    // What of it is the wave stage's.
+    pub fn wave_state(self) -> WaveState
+        ensures { result ≡ (record { pairs0 = self.pairs0; pairs1 = self.pairs1; last = self.last }) }
+    {
+        WaveState {
+            pairs0: self.pairs0,
+            pairs1: self.pairs1,
+            last: self.last,
+        }
+    }
 }
 
 // A rendered frame's sample, and the state after it.

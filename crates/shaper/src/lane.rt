@@ -15,8 +15,7 @@ use curve::Curve;
 use grid::Lane;
 use limits::{CURVE_LENGTH, SUB_BLOCK};
 use phase::Tables;
-use voice::{Reads, Shaped, fm_scale, reads_of, shape_of};
-use wave::Svf;
+use voice::{PhaseFrame, Reads, Shaped, Slots, WaveState, fm_scale, reads_of, shape_of};
 
 // The read list, and the FM carry after it.
 pub fn reads_at(
@@ -80,18 +79,20 @@ pub fn reads_at(
     );
     let span = at.lane.place(host / SUB_BLOCK);
     let tables = Tables { numbers, curve };
-    reads_of(
-        tables,
-        voice::Driven::new(slot0, control0),
-        voice::Driven::new(slot1, control1),
+    let slots = Slots {
+        slot0: voice::Driven::new(slot0, control0),
+        slot1: voice::Driven::new(slot1, control1),
+    };
+    let frame = PhaseFrame {
         factor,
         scale,
-        inner[span],
+        inner: inner[span],
         word,
         step,
         fm0,
         fm1,
-    )
+    };
+    reads_of(tables, slots, frame)
 }
 
 // The sample `x` shaped, and the filter pairs and `last` after it.
@@ -103,13 +104,11 @@ pub fn shape_at(
     step: u32,
     x: f32,
     controls: &ControlSlices<'_>,
-    pairs0: Svf,
-    pairs1: Svf,
-    last: f32,
+    state: WaveState,
 ) -> Shaped
     requires { Driven s (control_lengths (control_lists controls.now)) lane host }
     ensures { result ≡ shaped_at s (lane_controls s (control_lists controls.now) lane)
-        host sub step x pairs0 pairs1 last }
+        host sub step x state.pairs0 state.pairs1 state.last }
 {
     let at = LaneFrame {
         lane: Lane {
@@ -131,7 +130,7 @@ pub fn shape_at(
         controls.base0,
         controls.mod0,
         controls.source0,
-        last,
+        state.last,
         factor,
         sub,
     );
@@ -140,18 +139,13 @@ pub fn shape_at(
         controls.base1,
         controls.mod1,
         controls.source1,
-        last,
+        state.last,
         factor,
         sub,
     );
-    shape_of(
-        numbers,
-        voice::Driven::new(slot0, control0),
-        voice::Driven::new(slot1, control1),
-        step,
-        x,
-        pairs0,
-        pairs1,
-        last,
-    )
+    let slots = Slots {
+        slot0: voice::Driven::new(slot0, control0),
+        slot1: voice::Driven::new(slot1, control1),
+    };
+    shape_of(numbers, slots, step, x, state)
 }

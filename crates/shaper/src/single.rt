@@ -17,6 +17,7 @@ use curve::Curve;
 use grid::Lane;
 use limits::Refusal;
 use reads::LaneReads;
+use voice::WaveState;
 
 // For C, which has no `Result`: the number of a refusal, 0 where there is none, the range's frames, and the list.
 #[repr(C)]
@@ -163,20 +164,12 @@ fn sample_taken(
         lanes: s.lanes as usize,
         index: lane,
     };
-    let pairs0 = load_pair(pairs, 0, at);
-    let pairs1 = load_pair(pairs, 2, at);
-    let called = shape_at(
-        s,
-        lane,
-        host,
-        sub,
-        step,
-        x,
-        controls,
-        pairs0,
-        pairs1,
-        last[at.place(0)],
-    );
+    let state = WaveState {
+        pairs0: load_pair(pairs, 0, at),
+        pairs1: load_pair(pairs, 2, at),
+        last: last[at.place(0)],
+    };
+    let called = shape_at(s, lane, host, sub, step, x, controls, state);
     store_pairs(pairs, at, called.pairs0, called.pairs1);
     store_last(last, at, called.last);
     called.y

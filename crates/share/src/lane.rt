@@ -15,7 +15,7 @@ use grid::Lane;
 use halfband::{decimate_lane, stages_of};
 use limits::{CURVE_LENGTH, CYCLE_LENGTH};
 use reads::Cycle;
-use render::{LaneRange, LentSlices, render_lane};
+use render::{AcceptedSlices, LaneRange, LentSlices, render_lane};
 
 // The lane's first `count` work rows to the output rows from `first` on.
 fn copy_lane(first: usize, count: usize, lane: Lane, work: &[f32], output: &mut [f32])
@@ -56,14 +56,17 @@ pub fn run_lane(
     let first = part.range.first as usize;
     let count = part.range.count as usize;
     // The tables in just the entries that are asked for: past them nothing is read.
-    let curve = Curve {
-        values: &lent.curve[..CURVE_LENGTH],
-    };
-    let cycle = Cycle {
-        samples: &lent.cycle[..CYCLE_LENGTH],
+    let accepted = AcceptedSlices {
+        rows: lent.rows,
+        curve: Curve {
+            values: &lent.curve[..CURVE_LENGTH],
+        },
+        cycle: Cycle {
+            samples: &lent.cycle[..CYCLE_LENGTH],
+        },
     };
     let v = load_voice(at, pairs, fm, last);
-    let end = render_lane(part, v, lent.rows, curve, cycle, work);
+    let end = render_lane(part, v, accepted, work);
     store_voice(at, end, pairs, fm, last);
     decimate_lane(
         &part.block.designs,

@@ -21,6 +21,13 @@ pub struct Driven {
     ghost powered: { power ≡ power_of slot.mode control.amount },
 }
 
+// Both slots of a lane.
+#[derive(Clone, Copy)]
+pub struct Slots {
+    pub slot0: Driven,
+    pub slot1: Driven,
+}
+
 impl Driven {
     // With the power worked out.
     pub fn new(slot: Slot, control: Control) -> Driven

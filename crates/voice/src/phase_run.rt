@@ -3,7 +3,7 @@ ghost use Rattle.std.specs.Prelude.{◌≡◌, ◌≤◌};
 ghost use Rattle.phase.specs.Setting.{setting_if};
 ghost use Rattle.voice.specs.PhaseRun.{in_phase, is_own, fm_exponential, fm_scale, fm_cycles, carried_on, fm_offset, offset_of, offset_if, moved_of, map_slot, half_width, list_of, reads_of};
 
-use crate::control::{Control, Driven};
+use crate::control::{Control, Driven, Slots};
 use floats::{exp2, floor, nearest_u32};
 use lanes::{max, signed, to_word};
 use modes::{FmType, Modulated, Source, Stage};
@@ -32,6 +32,22 @@ pub struct Offset {
 pub struct Moved {
     pub list: ReadList,
     pub carry: f32,
+}
+
+// What the phase stage is given at a rendered frame, beside the slots.
+#[derive(Clone, Copy)]
+pub struct PhaseFrame {
+    // How many rendered frames a host frame has, and FM's reach as cycles a rendered frame.
+    pub factor: u32,
+    pub scale: f32,
+    // Slot 1's steepest slope as prepared.
+    pub inner: f32,
+    // The phase word, and by how much it moves a rendered frame.
+    pub word: u32,
+    pub step: u32,
+    // The FM carry of slots 0 and 1.
+    pub fm0: f32,
+    pub fm1: f32,
 }
 
 // The list that goes out, and both slots' carry.
@@ -195,27 +211,19 @@ pub fn half_width(increment: f32, factor: u32) -> f32
 
 // Slot 1's map, then slot 0's with half width times `inner`, then the offsets in the same order.
 #[tactic(auto, unfolding(crate::specs::PhaseRun::list_of, reads::specs::Reads::start_of, reads::specs::Reads::outgoing_of), using(floats::specs::Steps::steps))]
-fn list_of(
-    tables: Tables<'_>,
-    slot0: Driven,
-    slot1: Driven,
-    factor: u32,
-    scale: f32,
-    inner: f32,
-    word: u32,
-    increment: f32,
-    fm0: f32,
-    fm1: f32,
-) -> Reads
+fn list_of(tables: Tables<'_>, slots: Slots, frame: PhaseFrame, increment: f32) -> Reads
     ensures value { result ≡ list_of tables.entry.numbers.sin tables.entry.numbers.atan tables.entry.curve.values.now
-        slot0.slot slot1.slot factor scale slot0.control slot1.control inner word increment fm0 fm1 }
+        slots.slot0.slot slots.slot1.slot frame.factor frame.scale slots.slot0.control slots.slot1.control
+        frame.inner frame.word increment frame.fm0 frame.fm1 }
     ensures count_bound { result.reads.count ≤ 4 }
 {
-    let half = half_width(increment, factor);
-    let list1 = map_slot(tables, slot1, half, ReadList::start(word));
-    let list0 = map_slot(tables, slot0, half * inner, list1);
-    let moved1 = move_on(slot1, scale, increment, list0, fm1);
-    let moved0 = move_on(slot0, scale, increment, moved1.list, fm0);
+    let Slots { slot0, slot1 } = slots;
+    let scale = frame.scale;
+    let half = half_width(increment, frame.factor);
+    let list1 = map_slot(tables, slot1, half, ReadList::start(frame.word));
+    let list0 = map_slot(tables, slot0, half * frame.inner, list1);
+    let moved1 = move_on(slot1, scale, increment, list0, frame.fm1);
+    let moved0 = move_on(slot0, scale, increment, moved1.list, frame.fm0);
     Reads {
         reads: LaneReads::from(moved0.list),
         fm0: moved0.carry,
@@ -223,34 +231,21 @@ fn list_of(
     }
 }
 
-// The read list of a lane at one rendered frame: `inner` is slot 1's steepest slope as prepared, `fm0` and
-// `fm1` the FM carry of slots 0 and 1.
+// The read list of a lane at one rendered frame.
 #[tactic(auto, unfolding(crate::specs::PhaseRun::reads_of, reads::specs::Reads::one_read), using(floats::specs::Steps::steps))]
-pub fn reads_of(
-    tables: Tables<'_>,
-    slot0: Driven,
-    slot1: Driven,
-    factor: u32,
-    scale: f32,
-    inner: f32,
-    word: u32,
-    step: u32,
-    fm0: f32,
-    fm1: f32,
-) -> Reads
+pub fn reads_of(tables: Tables<'_>, slots: Slots, frame: PhaseFrame) -> Reads
     ensures value { result ≡ reads_of tables.entry.numbers.sin tables.entry.numbers.atan tables.entry.curve.values.now
-        slot0.slot slot1.slot factor scale slot0.control slot1.control inner word step fm0 fm1 }
+        slots.slot0.slot slots.slot1.slot frame.factor frame.scale slots.slot0.control slots.slot1.control
+        frame.inner frame.word frame.step frame.fm0 frame.fm1 }
     ensures count_bound { result.reads.count ≤ 4 }
 {
-    if in_phase(slot0.slot.mode) | in_phase(slot1.slot.mode) {
-        let increment = signed(step);
-        return list_of(
-            tables, slot0, slot1, factor, scale, inner, word, increment, fm0, fm1,
-        );
+    if in_phase(slots.slot0.slot.mode) | in_phase(slots.slot1.slot.mode) {
+        let increment = signed(frame.step);
+        return list_of(tables, slots, frame, increment);
     }
     Reads {
-        reads: LaneReads::one(word),
-        fm0,
-        fm1,
+        reads: LaneReads::one(frame.word),
+        fm0: frame.fm0,
+        fm1: frame.fm1,
     }
 }

@@ -3,8 +3,8 @@ ghost use Rattle.std.specs.Prelude.{◌≡◌};
 ghost use Rattle.voice.specs.PhaseRun.{list_of, reads_of};
 ghost use Rattle.voice.specs.SumRun.{slide_of, both_of, summed_of};
 
-use crate::control::Driven;
-use crate::phase_run::{half_width, in_phase};
+use crate::control::{Driven, Slots};
+use crate::phase_run::{PhaseFrame, half_width, in_phase};
 use lanes::{add_words, signed};
 use phase::{Reading, Tables, mapped_sum};
 use reads::Cycle;
@@ -52,23 +52,19 @@ fn both(word1: Option<u32>, word0: Option<u32>) -> Option<u32>
 fn sum_list(
     tables: Tables<'_>,
     cycle: Cycle<'_>,
-    slot0: Driven,
-    slot1: Driven,
-    factor: u32,
-    scale: f32,
-    inner: f32,
-    word: u32,
+    slots: Slots,
+    frame: PhaseFrame,
     increment: f32,
-    fm0: f32,
-    fm1: f32,
 ) -> Summed
     ensures { result ≡ summed_of cycle.entry.samples.now
         (list_of tables.entry.numbers.sin tables.entry.numbers.atan tables.entry.curve.values.now
-        slot0.slot slot1.slot factor scale slot0.control slot1.control inner word increment fm0 fm1) }
+        slots.slot0.slot slots.slot1.slot frame.factor frame.scale slots.slot0.control slots.slot1.control
+        frame.inner frame.word increment frame.fm0 frame.fm1) }
 {
-    let half = half_width(increment, factor);
-    let slide1 = slide_of(slot1, scale, increment, fm1);
-    let slide0 = slide_of(slot0, scale, increment, fm0);
+    let Slots { slot0, slot1 } = slots;
+    let half = half_width(increment, frame.factor);
+    let slide1 = slide_of(slot1, frame.scale, increment, frame.fm1);
+    let slide0 = slide_of(slot0, frame.scale, increment, frame.fm0);
     let reading = Reading {
         cycle,
         offset: both(slide1.word, slide0.word),
@@ -77,9 +73,9 @@ fn sum_list(
         x: mapped_sum::<false>(
             tables,
             reading,
-            slot0.map(half * inner),
+            slot0.map(half * frame.inner),
             slot1.map(half),
-            word,
+            frame.word,
         ),
         fm0: slide0.carry,
         fm1: slide1.carry,
@@ -87,32 +83,19 @@ fn sum_list(
 }
 
 // `reads_of`, summed.
-pub fn sum_of(
-    tables: Tables<'_>,
-    cycle: Cycle<'_>,
-    slot0: Driven,
-    slot1: Driven,
-    factor: u32,
-    scale: f32,
-    inner: f32,
-    word: u32,
-    step: u32,
-    fm0: f32,
-    fm1: f32,
-) -> Summed
+pub fn sum_of(tables: Tables<'_>, cycle: Cycle<'_>, slots: Slots, frame: PhaseFrame) -> Summed
     ensures { result ≡ summed_of cycle.entry.samples.now
         (reads_of tables.entry.numbers.sin tables.entry.numbers.atan tables.entry.curve.values.now
-        slot0.slot slot1.slot factor scale slot0.control slot1.control inner word step fm0 fm1) }
+        slots.slot0.slot slots.slot1.slot frame.factor frame.scale slots.slot0.control slots.slot1.control
+        frame.inner frame.word frame.step frame.fm0 frame.fm1) }
 {
-    if in_phase(slot0.slot.mode) | in_phase(slot1.slot.mode) {
-        let increment = signed(step);
-        return sum_list(
-            tables, cycle, slot0, slot1, factor, scale, inner, word, increment, fm0, fm1,
-        );
+    if in_phase(slots.slot0.slot.mode) | in_phase(slots.slot1.slot.mode) {
+        let increment = signed(frame.step);
+        return sum_list(tables, cycle, slots, frame, increment);
     }
     Summed {
-        x: cycle.read(word),
-        fm0,
-        fm1,
+        x: cycle.read(frame.word),
+        fm0: frame.fm0,
+        fm1: frame.fm1,
     }
 }

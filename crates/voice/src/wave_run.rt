@@ -3,11 +3,19 @@ ghost use Rattle.std.specs.Prelude.{◌≡◌, false};
 ghost use Rattle.floats.specs.Steps.{when◌then◌else◌};
 ghost use Rattle.voice.specs.WaveRun.{tracks, slot_of, has_state, Passes, ShapedBy, shaped_of};
 
-use crate::control::{Control, Driven};
+use crate::control::{Control, Driven, Slots};
 use crate::phase_run::is_own;
 use lanes::{Numbers, signed};
 use phase::Slot;
 use wave::{Filtered, Svf, in_wave, is_level, level, level_setting};
+
+// The state of the wave stage: the slots' filter pairs, and the raw sample before.
+#[derive(Clone, Copy)]
+pub struct WaveState {
+    pub pairs0: Svf,
+    pub pairs1: Svf,
+    pub last: f32,
+}
 
 // The sample that goes out, and the state after it.
 #[derive(Clone, Copy)]
@@ -47,22 +55,15 @@ fn slot_of(numbers: Numbers, driven: Driven, increment: f32, x: f32, state: Svf)
 
 // `shape_of` where a slot has a state.
 #[tactic(auto, unfolding(crate::specs::WaveRun::shaped_of), using(floats::specs::Steps::steps))]
-fn shape_stated(
-    numbers: Numbers,
-    slot0: Driven,
-    slot1: Driven,
-    step: u32,
-    x: f32,
-    pairs0: Svf,
-    pairs1: Svf,
-    last: f32,
-) -> Shaped
-    ensures { result ≡ shaped_of numbers.sin slot0.slot slot1.slot slot0.control slot1.control step x pairs0 pairs1 last }
+fn shape_stated(numbers: Numbers, slots: Slots, step: u32, x: f32, state: WaveState) -> Shaped
+    ensures { result ≡ shaped_of numbers.sin slots.slot0.slot slots.slot1.slot slots.slot0.control slots.slot1.control
+        step x state.pairs0 state.pairs1 state.last }
 {
+    let Slots { slot0, slot1 } = slots;
     let increment = signed(step);
-    let kept = kept(slot0.slot.mode, slot1.slot.mode, x, last);
-    let first = slot_of(numbers, slot0, increment, x, pairs0);
-    let second = slot_of(numbers, slot1, increment, first.y, pairs1);
+    let kept = kept(slot0.slot.mode, slot1.slot.mode, x, state.last);
+    let first = slot_of(numbers, slot0, increment, x, state.pairs0);
+    let second = slot_of(numbers, slot1, increment, first.y, state.pairs1);
     Shaped {
         y: second.y,
         pairs0: first.state,
@@ -93,41 +94,28 @@ fn level_of(driven: Driven, x: f32) -> f32
 }
 
 // `shape_of` where no slot has a state: no number of the sine is asked for, and the step is not looked at.
-pub fn shape_level(
-    slot0: Driven,
-    slot1: Driven,
-    x: f32,
-    pairs0: Svf,
-    pairs1: Svf,
-    last: f32,
-) -> Shaped
-    requires stateless0 { has_state slot0.slot.mode ≡ false }
-    requires stateless1 { has_state slot1.slot.mode ≡ false }
-    ensures { ShapedBy result slot0.slot slot1.slot slot0.control slot1.control x pairs0 pairs1 last }
+pub fn shape_level(slots: Slots, x: f32, state: WaveState) -> Shaped
+    requires stateless0 { has_state slots.slot0.slot.mode ≡ false }
+    requires stateless1 { has_state slots.slot1.slot.mode ≡ false }
+    ensures { ShapedBy result slots.slot0.slot slots.slot1.slot slots.slot0.control slots.slot1.control
+        x state.pairs0 state.pairs1 state.last }
 {
+    let Slots { slot0, slot1 } = slots;
     Shaped {
         y: level_of(slot1, level_of(slot0, x)),
-        pairs0,
-        pairs1,
-        last: kept(slot0.slot.mode, slot1.slot.mode, x, last),
+        pairs0: state.pairs0,
+        pairs1: state.pairs1,
+        last: kept(slot0.slot.mode, slot1.slot.mode, x, state.last),
     }
 }
 
 // The sample `x` of a lane at one rendered frame, shaped by slot 0 and then slot 1.
-pub fn shape_of(
-    numbers: Numbers,
-    slot0: Driven,
-    slot1: Driven,
-    step: u32,
-    x: f32,
-    pairs0: Svf,
-    pairs1: Svf,
-    last: f32,
-) -> Shaped
-    ensures { result ≡ shaped_of numbers.sin slot0.slot slot1.slot slot0.control slot1.control step x pairs0 pairs1 last }
+pub fn shape_of(numbers: Numbers, slots: Slots, step: u32, x: f32, state: WaveState) -> Shaped
+    ensures { result ≡ shaped_of numbers.sin slots.slot0.slot slots.slot1.slot slots.slot0.control slots.slot1.control
+        step x state.pairs0 state.pairs1 state.last }
 {
-    if has_state(slot0.slot.mode) | has_state(slot1.slot.mode) {
-        return shape_stated(numbers, slot0, slot1, step, x, pairs0, pairs1, last);
+    if has_state(slots.slot0.slot.mode) | has_state(slots.slot1.slot.mode) {
+        return shape_stated(numbers, slots, step, x, state);
     }
-    shape_level(slot0, slot1, x, pairs0, pairs1, last)
+    shape_level(slots, x, state)
 }

@@ -6,4 +6,5 @@ use Rattle.render.proofs.frame.full_frame.Goals as goal
 pub returns : goal.returns
 unfolding frame_of
 returns c =
-    rw (← c.requires.own0, ← c.requires.own1, given c.sum_of-raw.ensures, given c.shape_of-shaped.ensures)
+    let shaped = rw c.wave_state.ensures at c.shape_of-shaped.ensures in
+    rw (← c.requires.own0, ← c.requires.own1, given c.sum_of-raw.ensures, given shaped)

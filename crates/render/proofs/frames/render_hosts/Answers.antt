@@ -2,14 +2,14 @@
 use Prim.Native.Nat.{◌*◌}
 use native.Mathlib.Omega.{arith}
 use Rattle.render.specs.Lane.{Lent, inputs_in}
-use Rattle.render.specs.Slices.{rows_with}
+use Rattle.render.specs.Slices.{accepted_lists}
 use Rattle.render.specs.Frames.{Frames}
 use Rattle.render.proofs.FrameLaws.{hosts_none, hosts_more, hosts_done}
 use Rattle.render.proofs.frames.render_hosts.Goals as goal
 use Rattle.render.proofs.frames.render_hosts.Goals.{At-loop-k}
 
 abbrev lends : At-loop-k → Lent
-lends c = let a = c.args in rows_with a.rows a.curve.values.now a.cycle.samples.now
+lends c = let a = c.args in accepted_lists a.lent
 
 -- the host frames so far, of this block
 so_far : (c : At-loop-k)

@@ -2,13 +2,13 @@
 use mathlib.Core.Path.{sym, ◌∙◌}
 use borrow.Author.Rules.{rules}
 use Rattle.render.specs.Lane.{Lent}
-use Rattle.render.specs.Slices.{rows_with}
+use Rattle.render.specs.Slices.{accepted_lists}
 use Rattle.render.proofs.PlainLaws.{neither, unshaped, plain_frames}
 use Rattle.render.proofs.frames.render_lane.Goals as goal
 use Rattle.render.proofs.frames.render_lane.Goals.{Start}
 
 abbrev lends : Start → Lent
-lends c = let a = c.args in rows_with a.rows a.curve.values.now a.cycle.samples.now
+lends c = let a = c.args in accepted_lists a.lent
 
 pub read_lane-requires : goal.read_lane-requires
 read_lane-requires c =

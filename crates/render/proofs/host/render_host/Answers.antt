@@ -3,14 +3,14 @@ use mathlib.Core.Path.{refl}
 use native.Mathlib.Omega.{arith}
 use lib.ListN.{length-set}
 use Rattle.render.specs.Lane.{Lent}
-use Rattle.render.specs.Slices.{rows_with}
+use Rattle.render.specs.Slices.{accepted_lists}
 use Rattle.render.proofs.InputLaws.{room_in, framed}
 use Rattle.render.proofs.FrameLaws.{powered, ran_none, ran_more, ran_done}
 use Rattle.render.proofs.host.render_host.Goals as goal
 use Rattle.render.proofs.host.render_host.Goals.{Start}
 
 abbrev lends : Start → Lent
-lends c = let a = c.args in rows_with a.rows a.curve.values.now a.cycle.samples.now
+lends c = let a = c.args in accepted_lists a.lent
 
 pub loop-sub-init : goal.loop-sub-init
 loop-sub-init c = (omega arith, refl, refl, ran_none _ _ (lends (goal.at.loop-sub-init c).Start) _ _ _ _ _)

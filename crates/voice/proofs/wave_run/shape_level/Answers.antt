@@ -8,4 +8,4 @@ pub returns : goal.returns
 unfolding shaped_of ◌>>=◌
 returns c = λ sk step.
     let increment = signed_of step in
-    rw (c.kept.ensures, ← c.level_of.ensures sk increment c.args.pairs0, ← c.level_of-2.ensures sk increment c.args.pairs1)
+    rw (c.kept.ensures, ← c.level_of.ensures sk increment c.args.state.pairs0, ← c.level_of-2.ensures sk increment c.args.state.pairs1)
