@@ -231,7 +231,8 @@ fn read_of(list: ReadList, i: usize) -> Read
 
 // The read list after a slot shapes `list`. Each read has its own place, so that the list can stay in
 // registers; and with `map` at more than one place the compiler keeps it a function, and does not work out
-// every mode's numbers for each.
+// every mode's numbers for each. That there are four at the most is asked for: why no ghost field says it,
+// `ReadList` tells.
 #[tactic(auto, unfolding(crate::specs::Map::apply_of, crate::specs::Map::mapped, crate::specs::Map::emptied, reads::specs::Reads::empty_of))]
 pub fn apply(tables: Tables<'_>, setting: MapSetting, list: ReadList) -> ReadList
     requires { list.count ≤ 4 }

@@ -173,6 +173,7 @@ impl Driven {
     }
 }
 
+// Here and in `map_slot` the count is asked for, as in `phase::apply`.
 #[tactic(auto, unfolding(crate::specs::PhaseRun::moved_of))]
 fn move_on(driven: Driven, scale: f32, increment: f32, list: ReadList, carry: f32) -> Moved
     requires { list.count ≤ 4 }

@@ -52,7 +52,8 @@ pub fn blend_rectified(a: f32, x: f32) -> f32
     (abs(x) - x) * a + x
 }
 
-// A distortion mode's curve at amount `a` (0 to 1), applied to `x`, as the 2D preview draws it.
+// A distortion mode's curve at amount `a` (0 to 1), applied to `x`, as the 2D preview draws it. Here and in
+// `distort_smooth` the parameters are the Rust's, after the numbers.
 #[tactic(auto, unfolding(crate::specs::Smooth::distort_of, modes::specs::Choice::case_of, crate::specs::Smooth::curved), using(floats::specs::Steps::steps))]
 pub fn distort(numbers: Numbers, mode: u32, a: f32, x: f32) -> f32
     ensures { result ≡ distort_of numbers.sin mode a x }
