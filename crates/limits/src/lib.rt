@@ -1,6 +1,6 @@
 // When a call is turned down: document 01's table of refusals, with a function for each test, and the
 // lengths that it asks of buffers. Lines 1 to 6 take any numbers, so that a call puts its arguments to
-// them as they come; lines 7 and 8 take those that passed.
+// them as they come, and so do lines 7 and 8 but for `rendered_length`, which takes numbers that passed.
 #![tactic(auto)]
 
 pub mod answers;

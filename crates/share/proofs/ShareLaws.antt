@@ -5,7 +5,7 @@ use Prim.Native.Nat.{ℕ, ◌+◌, ◌*◌, ◌≤◌, ◌<◌}
 use native.Mathlib.Nat.{mul-le-mul_left, mul-le-mul_right, zero-add}
 use native.Mathlib.Omega.{arith}
 use lib.ListN.{length, get_or, set, take}
-use lib.Seq.{length-take-le}
+use lib.Seq.{take-take, length-take-le}
 use lib.Ieee.{Float, nan}
 use Rattle.grid.specs.Functions.{upto, span}
 use Rattle.grid.specs.Cells.{col, columns, blk}
@@ -66,10 +66,15 @@ cut_lent l =
       inner = l.inner;
     }
 
+-- the lane's inputs are cut so already
+pub inputs_cut : (s : Settings) (l : Lent) (lane : ℕ) → inputs_of s (cut_lent l) lane ≡ inputs_of s l lane
+unfolding inputs_of
+inputs_cut s l lane = rw (take-take 1025 1025 l.curve (omega arith), take-take 2048 2048 l.cycle (omega arith))
+
 -- and a lane's inputs as they are read are the definition's
-pub inputs_cut : (s : Settings) (l : Lent) (lane : ℕ) → inputs_in s (cut_lent l) lane ≡ inputs_of s l lane
+pub inputs_read : (s : Settings) (l : Lent) (lane : ℕ) → inputs_in s (cut_lent l) lane ≡ inputs_of s l lane
 unfolding inputs_in inputs_of
-inputs_cut s l lane = refl
+inputs_read s l lane = refl
 
 pub cut_readable : {s : Settings} (l : Lent) → Readable s l → Readable s (cut_lent l)
 cut_readable l readable =
@@ -137,7 +142,7 @@ module _ (b : BlockSettings) (r : Range) (l : Lent) (lane : ℕ) where
   shared output work pairs fm last dec work₁ output' work' pairs' fm' last' dec' stages v end hl enters ran stored es decimated-lane copied-lane sizes =
       let i = inputs_of b.shaper l lane in
       let v₀ = voice_of (col nan n lane pairs) (col nan n lane fm) (col nan n lane last) in
-      let frames : Frames b i lane (first_frame b r) 0 (frame_count b r) v₀ end work work₁ = rw (inputs_cut b.shaper l lane, enters) at ran in
+      let frames : Frames b i lane (first_frame b r) 0 (frame_count b r) v₀ end work work₁ = rw (inputs_read b.shaper l lane, enters) at ran in
       let rows : col nan n lane work₁ ≡ upto (frame_count b r) (sample_at b i (first_frame b r) v₀) (col nan n lane work) =
       one_lane frames.rows hl ∙ span_upto _ _ _ in
       let down : view floats n lane work' dec'

@@ -45,7 +45,7 @@ unfoldable pub bounds_of : Float → Option (List Float) → ℕ → ℕ → Bou
 bounds_of base none from k = record { low = base; high = base }
 bounds_of base (some xs) from k = bounds_to base xs from k
 
--- ---- `source_span`: the source's peak and steepest step over k rows
+-- ---- `source_span` of mod.rs: the source's peak and steepest step over k rows
 
 unfoldable pub swung : Swing → Float → Swing
 swung w x = record { peak = max_of w.peak (abs_of x); step = max_of w.step (abs_of (x ⊖ w.last)); last = x }
