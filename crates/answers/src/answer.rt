@@ -27,6 +27,7 @@ pub fn pattern(x: f32) -> u32
     if x.is_nan() { 0x7fc0_0000 } else { x.to_bits() }
 }
 
+// A function on floats as one on patterns. That it may always be called is asked by each of the three: no type says so.
 fn one<F: Fn(f32) -> f32>(of: F, a: u32) -> u32
     requires { F.IsAlwaysCallable of }
 {
@@ -52,7 +53,7 @@ fn steepest(seed: u32) -> f32 {
 }
 
 // What each operation of a line answers to its words; a NaN to one that there is not. An operation is the lines'
-// number; each stands in this table alone.
+// number: an enum of them would be this table a second time.
 pub fn answer(table: &[f32; 1025], op: u32, words: [u32; 3]) -> u32 {
     let [a, b, c] = words;
     let numbers = lanes::rust_numbers();

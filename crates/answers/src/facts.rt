@@ -1,8 +1,9 @@
-// The mode facts as numbers.
+// The mode facts as numbers, since a line of the vectors has a word for each answer. Probe has the same for C: its
+// functions are exports, and none of the programs' crates stands on them.
 use limits::Refusal;
 use modes::Modulated;
 
-// Numbers of what a fact says, 0 for nothing.
+// Numbers of what a fact says, 0 for nothing. One for each enum: no trait stands for the cast.
 pub(crate) fn source(mode: u32) -> Result<u32, Refusal> {
     Ok(modes::source(mode)?.map_or(0, |source| source as u32))
 }

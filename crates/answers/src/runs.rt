@@ -108,7 +108,7 @@ fn decimated(a: u32, b: u32) -> u64 {
 }
 
 // Read lists and samples have two modes beside their count; samples have a mode and, in the other's place,
-// whether they go through a slot.
+// whether they go through a slot. An operation is the lines' number, as in answer.rt.
 pub fn ran(table: &[f32; 1025], op: u32, words: [u32; 2]) -> Hashed {
     let [a, b] = words;
     let run = ModesRun::new(words);

@@ -10,7 +10,7 @@ use phase::Slot;
 use render::BlockSettings;
 use shaper::Settings;
 
-// The sine's five numbers, then the arctangent's eight.
+// The sine's five numbers, then the arctangent's eight. Number by number: a copy into arrays of zeros would be longer.
 #[tactic(auto, using(crate::proofs::NumberLaws::numbers_taken))]
 pub fn numbers_of(xs: &[f32]) -> Numbers
     requires { numbers_length ≤ length xs.now }

@@ -69,7 +69,8 @@ const OF_BLOCKS: [Fault; 15] = [
     Fault::Cycle,
 ];
 
-// The fault of a call about a lane or about spans: of 64 draws 13 make one.
+// The fault of a call about a lane or about spans: of 64 draws 13 make one. It and the next are one expression of std,
+// each on its own table.
 pub fn fault_of_call(how: u32) -> Option<Fault>
     ensures { IsSome result ↔ (how / 0x400_0000 < 13) }
 {
@@ -103,6 +104,7 @@ pub fn cut<T>(fault: Option<Fault>, at: Fault, cells: &[T], short: usize) -> &[T
     }
 }
 
+// The same of a buffer that the call changes: no function is generic over `&` and `&mut`.
 pub fn cut_mut<T>(fault: Option<Fault>, at: Fault, cells: &mut [T], short: usize) -> &mut [T]
     ensures faulty { fault ≡ Some at → short ≤ length cells.old → result.now ≡ take short cells.old }
     ensures sound { fault ≢ Some at → result.now ≡ cells.old }

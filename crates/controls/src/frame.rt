@@ -12,7 +12,8 @@ use lanes::mul_add;
 use voice::{Control, is_own};
 
 // A lane at a host frame of a block of `frames`: a modulation or source that is given has a row for each of
-// these, whatever its length.
+// these, whatever its length. Each method asks that of the slice that it reads: a struct of the slice with this fact
+// would be made at each call, for one read.
 #[derive(Clone, Copy)]
 pub struct LaneFrame {
     pub lane: Lane,

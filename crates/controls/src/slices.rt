@@ -6,7 +6,7 @@ ghost use Rattle.controls.specs.Slices.{control_lists};
 use limits::ControlLengths;
 
 // Base, modulation and source of either slot: a number for each lane, and two rows for each host frame. An
-// empty modulation or source is absent.
+// empty modulation or source is absent. Six fields and not two slots of three: C lends six, and the promises name six.
 #[derive(Clone, Copy)]
 pub struct ControlSlices<'a> {
     pub base0: &'a [f32],

@@ -28,7 +28,8 @@ fn segment(at: f32) -> usize
 }
 
 impl<'a> Curve<'a> {
-    // A table that is too short is refused.
+    // A table that is too short is refused. `Cycle::new` of reads is the same of another length: a struct for both,
+    // with the length as a const parameter, could have methods in one crate alone.
     pub fn new(values: &'a [f32]) -> Result<Curve<'a>, Refusal>
         ensures ok { IfOk result (λ curve. curve.values.now ≡ values.now × 1024 < length values.now) }
         ensures err { IfErr result (λ refusal. refusal ≡ Refusal.ShortRead × length values.now < 1025) }

@@ -1,6 +1,6 @@
-// Runs of patch files: each turn makes a file from the seed, reads it, writes the patch and compares both
-// files, and a hash takes the answers, field by field: C's structs hold floats, which std hashes none of. The bytes stay
-// as the turns before it have left them.
+// Runs of patch files: each turn makes a file from the seed, reads it, writes the patch and compares both files, and a
+// hash takes the answers, field by field: C's structs hold floats, which std hashes none of. The bytes stay as the
+// turns before it have left them.
 ghost use Rattle.std.specs.Prelude.{◌≤◌};
 
 use crate::drawn::{Draws, put_records};
@@ -41,7 +41,8 @@ fn put_same(hash: &mut Hash, s: Same) {
     hash.put(s.same);
 }
 
-// A patch as a writer is given it: as it is, or with a field out of range.
+// A patch as a writer is given it: as it is, or with a field out of range. By a draw: its numbers stand here alone, so
+// that an enum of them would be these arms a second time.
 fn given(fault: u32, patch: Patch) -> Patch {
     let mut given = patch;
     match fault {

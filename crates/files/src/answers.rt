@@ -1,4 +1,5 @@
-// What the card's calls on patch files answer, as C has it: each struct here is C's form of a result.
+// What the card's calls on patch files answer, as C has it: each struct here is C's form of a result. `Written` is no
+// `Answer` of limits with the same conversion: C's two structs name their values each in its own way.
 ghost use Rattle.std.specs.Prelude.{◌≡◌};
 ghost use Rattle.files.specs.Reader.{reading_as};
 ghost use Rattle.files.specs.Writer.{written_as};

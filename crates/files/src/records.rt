@@ -90,7 +90,7 @@ impl Record {
         })
     }
 
-    // The record that a file goes on with.
+    // The record that a file goes on with. No `TryFrom`: the rest of a file is more than a record.
     #[tactic(auto, using(crate::proofs::NumberLaws::lengths), unfolding(limits::specs::Refusals::number_of, limits::specs::Refusals::line_of, crate::specs::Format::two_at))]
     pub fn read(rest: &[u8]) -> Result<Record, Refusal>
         ensures number { number_of result ≡ number_at rest.now 0 }
@@ -109,7 +109,7 @@ impl Record {
         }
     }
 
-    // Its bytes.
+    // Its bytes, by a method, as std's `to_le_bytes`.
     #[tactic(auto, unfolding(crate::specs::Format::record_of))]
     pub fn bytes(self) -> [u8; RECORD]
         ensures { result ≡ record_of (entry_as self) }

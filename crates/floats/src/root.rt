@@ -76,7 +76,8 @@ static FACTORS: [Factors; 8] = [
     },
 ];
 
-// 2^23, or 2^23 times the root of 2 where the exponent is odd.
+// 2^23, or 2^23 times the root of 2 where the exponent is odd. `even` is 1 or 0 and no bool, since `root_bits` moves
+// the digits by it too.
 fn turn(even: u32) -> f64 {
     if even == 1 {
         8388608.0

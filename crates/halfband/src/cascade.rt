@@ -40,7 +40,8 @@ pub fn decimate_lane(
     ensures { Each lane.lanes lane.index (lane.index + 1) (λ _. lane_part designs.now stages frames)
         (views floats lane.lanes buffer.old state.old) (views floats lane.lanes buffer.new state.new) }
 {
-    // By number and not by design: the number is also the block of the state, and how often the frames double.
+    // By number, which is also the block of the state and how often the frames double: the designs of so many stages,
+    // with their numbers and from the last on, are no plainer.
     for from_last in (0..stages).rev() {
         stage(
             &designs.stages[from_last],

@@ -3,8 +3,9 @@ ghost use Rattle.std.specs.Prelude.{◌≡◌, ◌+◌, ◌≤◌, length, slice
 ghost use Rattle.limits.specs.Lengths.{coefs_length};
 ghost use Rattle.halfband.specs.Floats.{design_at, designs_of, card_designs};
 
-// The first coefficient goes to the path that is fed the later sample of each pair, then they
-// alternate. Of the twelve the first `count` are taken: there is no heap, and C lends twelve of each design.
+// The first coefficient goes to the path that is fed the later sample of each pair, then they alternate. Of the twelve
+// that C lends the first `count` are taken. That is any number, and a call refuses one above 12: an `ArrayVec` would
+// ask more of whoever makes a design.
 #[derive(Clone, Copy)]
 pub struct Design {
     pub coefs: [f32; 12],

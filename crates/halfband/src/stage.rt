@@ -25,15 +25,17 @@ fn frame<const COUNT: usize>(coefs: &[f32; 12], early: f32, late: f32, cells: &m
     ensures { Framed (sections coefs.now COUNT) cells.old cells.new early late result }
 {
     let mut paths = [late, early];
+    // With the number of each, which says its cells and on which of the two paths it is.
     for (i, c) in coefs[..COUNT].iter().enumerate() {
         paths[i % 2] = section(*c, i, cells, paths[i % 2]);
     }
     (paths[0] + paths[1]) * 0.5
 }
 
-// `frames` output frames from twice as many. The compiler knows the count, and lays the sections out in a row.
-// What it asks of the count and the rows stands here, in `run_counted` and in `stage`: a `Design` that promised its count
-// would ask more of whoever makes one, and a struct around `buffer`, lent to be changed, would stand in every clause.
+// `frames` output frames from twice as many. The compiler knows the count, and lays the sections out in a row. What is
+// asked of the count, the rows and the state's room stands at each function of this file: a `Design` that promised its
+// count would ask more of whoever makes one, and a struct around a slice that is lent to be changed would stand in
+// every clause.
 fn run<const COUNT: usize>(
     design: &Design,
     frames: usize,
@@ -92,6 +94,7 @@ fn load(count: usize, block: usize, lane: Lane, state: &[f32]) -> [f32; 24]
     ensures { Loaded state.now block lane.lanes lane.index (2 * count) result }
 {
     let mut cells = [0.0; 24];
+    // With the number of each, which says its place: the state's cells of a lane lie `lanes` apart.
     for (i, cell) in cells[..2 * count].iter_mut().enumerate() {
         *cell = state[lane.place(24 * block + i)];
     }
@@ -104,6 +107,7 @@ fn store(count: usize, block: usize, lane: Lane, cells: &[f32; 24], state: &mut 
     requires room { Room (length state.old) block lane.lanes lane.index }
     ensures { Stored block lane.lanes lane.index (2 * count) cells.now state.old state.new }
 {
+    // As in `load`.
     for (i, cell) in cells[..2 * count].iter().enumerate() {
         state[lane.place(24 * block + i)] = *cell;
     }

@@ -13,8 +13,8 @@ use render::{BlockSettings, LentSlices};
 use shaper::Range;
 
 // `block::block_run` of lane `lane` alone: no other lane's cell is touched. It stays beside the run, from which
-// tools/lane_sources makes it: each has its own contract, and with `run_either` of crate card each is compiled once. Why
-// the six slices that are written are no struct is told at share's `run_lane`.
+// tools/lane_sources makes it, since each promises something else; where both are called by C, crate card has one for
+// both, `run_either`. Why the six slices that are written are no struct is told at share's `run_lane`.
 pub fn lane_run(
     b: BlockSettings,
     r: Range,

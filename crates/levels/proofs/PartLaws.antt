@@ -1,5 +1,5 @@
 -- The search in parts: what is found in one, the outputs of a part, and of which modes they are. Assumes nothing.
-use mathlib.Core.Path.{◌≡◌, refl, sym, ap, ◌∙◌}
+use mathlib.Core.Path.{◌≡◌, refl, ap, ◌∙◌}
 use mathlib.Core.Bool.{Bool, true, false, cond}
 use mathlib.Core.List.{List}
 use Prim.Native.Nat.{ℕ, zero, suc, ◌+◌, ◌≤◌, ◌<◌}
@@ -20,7 +20,7 @@ use Rattle.floats.specs.F32.{◌⊗◌}
 use Rattle.floats.specs.Steps.{◌>>=◌}
 use Rattle.floats.proofs.Products.{product_comm}
 use Rattle.grid.proofs.TableLaws.{length_table, get_or-table}
-use Rattle.limits.specs.Search.{some_below, least_below, Least}
+use Rattle.limits.specs.Search.{least_below}
 use Rattle.limits.proofs.SearchLaws.{all_none, found_least, none_least, least_some, least_alike, least_below_lem}
 use Rattle.wave.specs.Curve.{curve_of, curves_of}
 use Rattle.wave.specs.Smooth.{drive_of}

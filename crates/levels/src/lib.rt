@@ -14,8 +14,8 @@ use limits::{NUMBERS_LENGTH, Refusal, check_lines, short};
 use modes::is_distortion;
 pub use search::Search;
 
-// The number by which a call is turned down, 0 where it is accepted, and the amount in hundredths of a
-// percent, 0 where it is turned down: what C hears.
+// For C, which has no `Result`: the number of a refusal, 0 where there is none, and the amount in hundredths of a
+// percent, 0 where the call is turned down. No `Answer` of limits, since C names the value in its own way.
 #[repr(C)]
 #[derive(Clone, Copy)]
 pub struct Found {

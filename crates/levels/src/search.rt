@@ -19,6 +19,9 @@ pub const AMOUNTS: u32 = 10001;
 // one that serves.
 const PART: usize = 64;
 
+// How many parts hold all amounts.
+const PARTS: u32 = 157;
+
 // An amount serves if the mode bends `sample` at it to within `tolerance` of `wanted`.
 #[derive(Clone, Copy)]
 pub struct Search {
@@ -71,8 +74,10 @@ impl Search {
     fn least_curved(self) -> Option<u32>
         ensures { result ≡ least_of amounts (curved_at self.numbers.sin self.mode self.sample self.wanted self.tolerance) }
     {
-        // Not `find_map`: that each number of `step_by` is an amount, which the closure asks, was not proved.
-        for from in (0..AMOUNTS).step_by(PART) {
+        // By part: of the numbers of `step_by` the compiler does not know how large they are, and a search takes a tenth
+        // longer. Not `find_map`: that each part is one, which the closure asks, was not proved.
+        for part in 0..PARTS {
+            let from = part * PART as u32;
             if let Some(at) = self.part_within(from) {
                 // The last part goes past the most.
                 let found = from + at as u32;

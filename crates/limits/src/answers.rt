@@ -1,5 +1,5 @@
-// What calls answer to C, which has no `Result`: a number, which is 0 where the call is accepted and else its refusal's,
-// and beside it what an accepted call gives, 0 where it is turned down.
+// What calls answer to C, which has no `Result`: a number, which is 0 where the call is accepted and else its
+// refusal's, and beside it what an accepted call gives, 0 where it is turned down.
 ghost use Rattle.std.specs.Prelude.{◌≡◌};
 ghost use Rattle.limits.specs.Refusals.{answer_of, valued_of, value_answer};
 

@@ -69,7 +69,7 @@ pub fn frame_bad(factor: u32, frames: u32, first: u32, count: u32, frame: u32) -
     range_bad(frames, first, count) | !((frame as u64) < rendered(factor, count))
 }
 
-// Line 4, for `PhaseRun::stretch`.
+// Line 4, for `PhaseRun::stretch`: of a call's own numbers too.
 pub fn asked_bad(factor: u32, frames: u32, first: u32, count: u32, from: u32, asked: u32) -> bool
     ensures { result ≡ bad_asked factor frames first count from asked }
 {

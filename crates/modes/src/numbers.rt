@@ -1,6 +1,6 @@
-// The modes by name: the number of each, in the order of `Mode`. The Rust's names in upper case, with `_`
-// before each later capital, as the C header has them behind `SHAPER_`. A mode is what C passes, any number, so they are
-// constants and no enum.
+// The modes by name: the number of each, in the order of `Mode`. The Rust's names in upper case, with `_` before each
+// later capital, as the C header has them behind `SHAPER_`. Constants and no enum: a mode is what C passes, and calls
+// say what they make of any number, where an enum would ask more of callers.
 ghost use Rattle.std.specs.Prelude.{◌≡◌};
 ghost use Rattle.modes.specs.Table.{numbers};
 

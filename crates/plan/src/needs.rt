@@ -136,8 +136,9 @@ fn refusal(number: u32) -> Plan
     }
 }
 
-// What a block of these numbers needs, or why it is turned down. `Planned` and `TurnedDown` (specs/Planned, proved in
-// proofs/Planned) have what the answer means for the block's runs.
+// What a block of these numbers needs, or why it is turned down. In C's struct, whose number is 0 then: one without it
+// would have its other eight fields again. `Planned` and `TurnedDown` (specs/Planned, proved in proofs/Planned) have
+// what the answer means for the block's runs.
 #[tactic(auto, using(crate::proofs::Passed::within, limits::proofs::LineLaws::handed_on), unfolding(crate::specs::Plan::plan_of, limits::specs::Refusals::number_of))]
 pub fn checked_plan(b: BlockNumbers) -> Result<Plan, Refusal>
     ensures ok { IfOk result (λ plan. plan ≡ plan_of b) }

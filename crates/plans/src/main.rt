@@ -23,6 +23,7 @@ fn print_entry(rt: &impl Print, number: u64, line: &[u8]) -> io::Result<()> {
 fn main(rt: HostRuntime) -> io::Result<()> {
     rt.print(HEADING)?;
     let mut line = Line::new();
+    // Counts lines and not turns: most bytes end none.
     let mut number = 1;
     // With no buffer, so that no memory is asked for; the input is short.
     for byte in rt.stdin().bytes() {

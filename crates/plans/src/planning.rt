@@ -58,7 +58,7 @@ fn meaning(refusal: Refusal) -> &'static str
     }
 }
 
-// The seven numbers in a line's order.
+// The seven numbers in a line's order. No `From`: neither type is this crate's.
 #[tactic(auto, unfolding(crate::specs::Planning::in_order))]
 fn in_order(values: [u32; 7]) -> BlockNumbers
     ensures { result ≡ in_order values }

@@ -7,8 +7,7 @@ use crate::shaping::shape_slot;
 use phase::{MapSetting, Reading, Tables, mapped_sum};
 use reads::Cycle;
 
-// The sums of all points' reads. By index, which makes the word: nothing is known of what an adapter of
-// `iter_mut` wrote.
+// The sums of all points' reads.
 fn read(
     tables: Tables<'_>,
     cycle: Cycle<'_>,
@@ -25,8 +24,8 @@ fn read(
         cycle,
         offset: None,
     };
-    for i in 0..points {
-        picture[i] = mapped_sum::<true>(tables, reading, map0, map1, word_at(points, i));
+    for (i, x) in picture.iter_mut().enumerate() {
+        *x = mapped_sum::<true>(tables, reading, map0, map1, word_at(points, i));
     }
 }
 

@@ -10,6 +10,7 @@ use wave::{
     blend_rectified, curve_all, cutoff_harmonic, damping, drive, in_wave, is_filter, tangent,
 };
 
+// As the Rust asks it. That it is `is_modulated` of wave, by the other fact, is the table's.
 #[tactic(auto, unfolding(crate::specs::Shaping::has_source))]
 fn has_source(mode: u32) -> bool
     ensures { result ≡ has_source mode }

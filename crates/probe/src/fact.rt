@@ -21,7 +21,7 @@ fn coded<T, F: FnOnce(T) -> u32>(fact: Result<T, Refusal>, number: F) -> u32
     }
 }
 
-// For C: the discriminant, and 0 for nothing.
+// For C: the discriminant, and 0 for nothing. One for each enum: no trait stands for the cast.
 fn source_number(source: Option<Source>) -> u32
     ensures { result ≡ source_code source }
 {

@@ -1,5 +1,5 @@
-// The wave side: the curves, the filters, and a slot on one sample and over a run of them. The parameters are C's, which
-// gives each by itself.
+// The wave side: the curves, the filters, and a slot on one sample and over a run of them. The parameters are C's,
+// which gives each by itself.
 ghost use Rattle.std.specs.Prelude.{◌≡◌, length};
 ghost use Rattle.wave.specs.Filter.{cutoff_harmonic, damping_of, filter_of};
 ghost use Rattle.wave.specs.Curve.{curve_of};

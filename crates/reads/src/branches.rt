@@ -52,7 +52,8 @@ fn kind_of(weight: f32) -> BranchKind
 }
 
 impl Branches {
-    // One read, with the gain that it came with.
+    // One read, with the gain that it came with. It and the next are two: one with the kind beside the read would take
+    // `Both` too.
     #[tactic(auto, unfolding(crate::specs::Branches::appended, crate::specs::Branches::appended_as))]
     pub fn one(read: Read) -> Branches
         ensures { Makes result (pushed read) }

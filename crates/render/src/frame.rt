@@ -17,7 +17,8 @@ use voice::{
     Control, Driven, PhaseFrame, Slots, has_state, in_phase, shape_level, shape_of, sum_of,
 };
 
-// `frame_of` where a slot maps or has a state: it takes the sine's and the arctangent's numbers.
+// `frame_of` where a slot maps or has a state: it takes the sine's and the arctangent's numbers. What the three here
+// are given stays parameters: it is gathered at the one call, and a struct of it would be taken apart at once.
 fn full_frame(
     s: Settings,
     scale: f32,
@@ -110,7 +111,7 @@ fn frame_of(
     level_frame(slots, cycle, word, v)
 }
 
-// Rendered frame `sub` of host frame `host`.
+// Rendered frame `sub` of host frame `host`. `lane` and `host` are no `LaneFrame`, as in shaper's calls.
 pub fn frame_at(
     s: Settings,
     scale: f32,

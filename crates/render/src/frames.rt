@@ -14,8 +14,9 @@ use crate::state::{Drive, LaneRange, Voice};
 use grid::Lane;
 use voice::fm_scale;
 
-// The rendered frames of the range's host frames, into the work rows from the first on; the lane's
-// state after them.
+// The rendered frames of the range's host frames, into the work rows from the first on; the lane's state after them.
+// What the still drives are is asked here and in host.rt: it goes by the settings and the rows, which no struct of
+// drives has.
 fn render_hosts(
     part: LaneRange,
     still0: Drive,

@@ -12,7 +12,8 @@ pub struct Rows<'a> {
     pub inner: &'a [f32],
 }
 
-// All of them once a run is accepted: the tables are known to be long enough.
+// All of them once a run is accepted: the tables are known to be long enough. That the rows are is asked of them with
+// the settings, by which it goes.
 #[derive(Clone, Copy)]
 pub struct AcceptedSlices<'a> {
     pub rows: Rows<'a>,

@@ -34,7 +34,8 @@ pub fn read_lane(
     ensures { Each lane.lanes lane.index (lane.index + 1) (λ l. span 0 count (cycle_read from lane.lanes l cycle.entry.samples.now words.now))
         (columns nan lane.lanes work.old) (columns nan lane.lanes work.new) }
 {
-    // By places: a lane's cells are `lanes` apart in both, and two stepped iterators are no plainer.
+    // By places: a lane's cells are `lanes` apart in both, and of what is written through a stepped `iter_mut` a proof
+    // knows nothing.
     for k in 0..count {
         let word = words[lane.place(from + k)];
         work[lane.place(k)] = cycle.read(word);

@@ -1,5 +1,6 @@
-// One lane at one rendered frame, its state in and out by value. `host` is the host frame of the block
-// that it falls in, `sub` counts the rendered frames of a host frame.
+// One lane at one rendered frame, its state in and out by value. `host` is the host frame of the block that it falls
+// in, `sub` counts the rendered frames of a host frame. Lane and host frame stay beside the settings: a `LaneFrame` has
+// lanes and frames of its own, of which each contract would ask that they are the settings'.
 ghost use Rattle.std.specs.Prelude.{◌≡◌, ◌≤◌, length, take};
 ghost use Rattle.std.specs.Float.{nan};
 ghost use Rattle.grid.specs.Cells.{column};

@@ -59,7 +59,7 @@ fn no_reads() -> LaneReads
     }
 }
 
-// The list of a call that is taken, its FM carry stored.
+// The list of a call that is taken, its FM carry stored. The parameters are those of `reads_at`, with the buffers.
 #[tactic(auto, using(crate::proofs::TakenLaws::reads_taken), unfolding(grid::specs::Cells::col))]
 fn reads_taken(
     s: Settings,
@@ -95,7 +95,8 @@ fn reads_taken(
     called.reads
 }
 
-// The range's frames, and the read list of one lane at one rendered frame, for a phase `word` that moves `step` words a rendered frame. `fm` is the FM carry; `last` is only read.
+// The range's frames, and the read list of one lane at one rendered frame, for a phase `word` that moves `step` words a
+// rendered frame. `fm` is the FM carry; `last` is only read.
 #[tactic(auto, using(crate::proofs::RefusalLaws::reads_passed, crate::proofs::RefusalLaws::driven_of_lem))]
 pub fn reads_lane(
     call: SingleCall,
@@ -140,7 +141,8 @@ pub fn reads_lane(
     Ok((call.range.count, reads))
 }
 
-// The sample of a call that is taken, its filter pairs and `last` stored.
+// The sample of a call that is taken, its filter pairs and `last` stored. The parameters are those of `shape_at`, with
+// the buffers.
 #[tactic(auto, using(crate::proofs::TakenLaws::sample_taken, grid::proofs::CellLaws::col_at))]
 fn sample_taken(
     s: Settings,

@@ -23,7 +23,8 @@ fn copy_lane(first: usize, count: usize, lane: Lane, work: &[f32], output: &mut 
     ensures { Each lane.lanes lane.index (lane.index + 1) (λ l. span first count (col nan lane.lanes l work.now))
         (columns nan lane.lanes output.old) (columns nan lane.lanes output.new) }
 {
-    // By places: a lane's cells are `lanes` apart in both, and two stepped iterators are no plainer.
+    // By places: a lane's cells are `lanes` apart in both, and of what is written through a stepped `iter_mut` a proof
+    // knows nothing.
     for k in 0..count {
         output[lane.place(first + k)] = work[lane.place(k)];
     }

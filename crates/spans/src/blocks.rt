@@ -14,7 +14,8 @@ use curve::Curve;
 use grid::Lane;
 use limits::{CURVE_LENGTH, Refusal, spans_of};
 
-// One lane's sub-blocks.
+// One lane's sub-blocks. The three slices that are written stay parameters, here and below, for the reason that share's
+// `run_lane` has.
 fn prepare_lane(
     block: Block,
     rows: usize,

@@ -1,8 +1,8 @@
 // Replays the oracle's stored answers (stdin, a line each) and prints how many of them the library
 // gives, and of document 01's boundary values and of known patch files how many are kept: "P of T" in all. The
 // lines are those of `leaf_vectors`, `phase_vectors`, `wave_vectors`, `decimate_vectors`, `single_vectors`,
-// `block_vectors`, `picture_vectors`, `file_vectors` and `level_vectors` of oracle/programs, which has their format; the
-// last two are models'. Runs of the block run are replayed twice, the second time by lanes' calls.
+// `block_vectors`, `picture_vectors`, `file_vectors` and `level_vectors` of oracle/programs, which has their format;
+// the last two are models'. Runs of the block run are replayed twice, the second time by lanes' calls.
 #![tactic(auto)]
 
 mod blocks;
@@ -65,7 +65,8 @@ impl Tally {
 }
 
 // A run of cases; from 0x50 on they are calls about one lane or about a block's spans, about a block's ranges,
-// pictures, patch files, or levels. An operation is the lines' number; each stands in this table alone.
+// pictures, patch files, or levels. An operation is the lines' number: an enum of them would be this table a second
+// time.
 fn hashed(table: &[f32; 1025], op: u32, words: [u32; 2]) -> Hashed {
     let run = ModesRun::new(words);
     let hash = match op {
@@ -126,6 +127,7 @@ fn kept() -> Tally {
 fn main(rt: HostRuntime) -> io::Result<()> {
     let table = table();
     let mut tally = kept();
+    // At the most so many lines: a turn reads its own, and nothing is counted through.
     for _ in 0..LINES {
         let mut bytes = [0; LENGTH];
         // An input that ends inside a line, or cannot be read, ends with the line before.

@@ -68,6 +68,7 @@ pub fn by_lanes(asked: &Asked<'_>, voices: &mut Voices) -> Option<Result<u32, Re
     if asked.active == 0 {
         return by_block(asked, voices);
     }
+    // A flag and no early return: all lanes are called, also where two differ.
     let mut alike = true;
     let mut outcome = None;
     // A lane is what a call is asked, and no index.

@@ -83,8 +83,8 @@ pub fn fm_exponential(s: f32) -> f32
     (up - down) / (2.0 * 0.693_147_2)
 }
 
-// FM's reach as cycles a rendered frame. Crate spans divides the words of a cycle in the same way, under a definition of
-// its own.
+// FM's reach as cycles a rendered frame. Crate spans divides the words of a cycle in the same way: with the number
+// divided as a parameter nothing but one division would be shared.
 #[tactic(auto, unfolding(crate::specs::PhaseRun::fm_scale))]
 pub fn fm_scale(rate: u32, factor: u32) -> f32
     requires { (rate ≤ 192000) × (factor ≤ 8) }

@@ -42,7 +42,8 @@ fn kept(mode0: u32, mode1: u32, x: f32, last: f32) -> f32
     if tracks(mode0, mode1) { x } else { last }
 }
 
-// A slot that is not in the wave stage has no setting, and leaves sample and state.
+// A slot that is not in the wave stage has no setting, and leaves sample and state. The parameters are those of wave's
+// `shape`, which says why they are.
 #[tactic(auto, unfolding(crate::specs::WaveRun::slot_of), using(crate::proofs::Powers::wave_power_lem, floats::specs::Steps::steps))]
 fn slot_of(numbers: Numbers, driven: Driven, increment: f32, x: f32, state: Svf) -> Filtered
     ensures { result ≡ slot_of numbers.sin driven.slot driven.control increment x state }

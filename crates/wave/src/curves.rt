@@ -134,10 +134,10 @@ fn soft_saturate(x: f32) -> f32
     x / (1.0 + abs(x))
 }
 
-// A distortion mode's curve, applied to `x` after the drive; a mode that is no distortion keeps it.
-// For Rectify, the rectifier alone. An arm for each mode, where a table of functions would need the modes' numbers as its
-// places. Inlined at every call: with two callers the compiler leaves it a function, and a block run with a distortion
-// takes a tenth longer.
+// A distortion mode's curve, applied to `x` after the drive; a mode that is no distortion keeps it. For Rectify, the
+// rectifier alone. An arm for each mode, where a table of functions would need the modes' numbers as its places.
+// Inlined at every call: with two callers the compiler leaves it a function, and a block run with a distortion takes a
+// tenth longer.
 #[inline(always)]
 #[tactic(auto, unfolding(crate::specs::Curve::curve_of, modes::specs::Choice::case_of))]
 pub fn curve(numbers: Numbers, mode: u32, x: f32) -> f32

@@ -1,5 +1,6 @@
 // The wave stage of wave.rs: the filters and the distortions that bend the value after the read, and
-// what a slot does to one sample.
+// what a slot does to one sample. Mode, sample and state stay parameters of each: no fact ties them, and a struct would
+// be made for each sample and taken apart at once.
 #![tactic(auto)]
 
 pub mod curves;

@@ -16,7 +16,8 @@ pub enum Setting {
     Level { amount: f32, source: f32 },
 }
 
-// Whether a slot with this mode acts on the value.
+// Whether a slot with this mode acts on the value. `in_phase` of voice is the same of the other stage: with the stage
+// beside the mode it would be the fact itself.
 #[tactic(auto, unfolding(crate::specs::Slot::in_wave))]
 pub fn in_wave(mode: u32) -> bool
     ensures { result ≡ in_wave mode }
@@ -68,8 +69,8 @@ pub fn level_setting(a: f32, source: Option<f32>) -> Option<Setting>
     source.map(|source| Setting::Level { amount: a, source })
 }
 
-// The setting of a slot at amount `a` (0 to 1), whose power is `power`; a slot outside the wave stage has none, and AM and
-// Ring have none where they have no source.
+// The setting of a slot at amount `a` (0 to 1), whose power is `power`; a slot outside the wave stage has none, and AM
+// and Ring have none where they have no source.
 #[tactic(auto, unfolding(crate::specs::Slot::setting_of, crate::specs::Slot::filter_setting, crate::specs::Slot::curve_setting, crate::specs::Slot::wave_power), using(floats::specs::Steps::steps))]
 pub fn setting_with(
     mode: u32,

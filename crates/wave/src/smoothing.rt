@@ -74,8 +74,8 @@ fn driven_by(mode: u32, a: f32, x: f32) -> f32
     }
 }
 
-// 1 where two inputs differ by 1 % of their size or more, the size counting as 1 at least, else 0. The integrals' rounding grows with
-// their size, so the closeness allowed does too.
+// 1 where two inputs differ by 1 % of their size or more, the size counting as 1 at least, else 0. The integrals'
+// rounding grows with their size, so the closeness allowed does too.
 #[tactic(auto, unfolding(crate::specs::Smooth::apart_of), using(floats::specs::Steps::steps))]
 fn apart_from(driven: f32, last: f32) -> f32
     ensures { result ≡ apart_of driven last }
