@@ -57,7 +57,10 @@ pub fn check(mode: u32, numbers: usize) -> Result<(), Refusal>
 pub fn searched(search: Search) -> Result<u32, Refusal>
     ensures { found_answer result ≡ searched_of (within_at search.numbers.sin search.mode search.sample search.wanted search.tolerance) }
 {
-    search.least().ok_or(Refusal::NoAmount)
+    match search.least() {
+        Some(hundredths) => Ok(u32::from(hundredths)),
+        None => Err(Refusal::NoAmount),
+    }
 }
 
 // The least amount that serves. Turned down: a mode that is no distortion, and where no amount serves.
