@@ -5,9 +5,6 @@ use Rattle.halfband.specs.Floats.{floats, design_of}
 use Rattle.halfband.proofs.CascadeLaws.{shifted, stage_rows, stages_then, stages_done}
 use Rattle.halfband.proofs.cascade.decimate_lane.Goals as goal
 
-pub loop-from_last-init : goal.loop-from_last-init
-loop-from_last-init c = λ w rest. rest
-
 pub stage-requires-clause-rows : goal.stage-requires-clause-rows
 stage-requires-clause-rows c =
     let left = c.loop-from_last.from_last - 1 in
