@@ -35,10 +35,18 @@ pub fn run_lanes(
         (buffers output.old work.old pairs.old fm.old last.old dec.old)
         (buffers output.new work.new pairs.new fm.new last.new dec.new) }
 {
+    // Taken apart before the lanes, so that what goes by the settings alone is worked out once.
+    let BlockSettings {
+        shaper,
+        rate,
+        designs,
+    } = b;
     // A lane is its number: its cells are no part of a slice to go through.
     for lane in from as usize..to as usize {
         let part = LaneRange {
-            block: b,
+            shaper,
+            rate,
+            designs: &designs,
             range: r,
             lane,
         };

@@ -1,6 +1,7 @@
 // Writing a patch file.
 ghost use Rattle.files.specs.Writer.{Wrote, written_as};
 
+pub use crate::answers::Written;
 use crate::patches::Patch;
 use crate::records::{RECORD, Record, Slot};
 use limits::Refusal;

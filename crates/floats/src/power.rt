@@ -8,8 +8,7 @@ ghost use Rattle.floats.specs.Promises.{steps_of};
 
 use crate::pattern::{exponent, significand};
 
-// E(0) to E(256). An indexed constant is stored anew in each call, so whoever calls `exp2` often
-// keeps a copy and lends it.
+// E(0) to E(256). A static and no constant: an indexed constant is stored anew in each call.
 pub static POWERS: [u32; 257] = [
     8388608, 8411351, 8434157, 8457024, 8479953, 8502945, 8525999, 8549115, 8572294, 8595536,
     8618841, 8642209, 8665640, 8689135, 8712694, 8736316, 8760003, 8783754, 8807569, 8831449,
@@ -41,7 +40,7 @@ pub static POWERS: [u32; 257] = [
     16506861, 16551616, 16596492, 16641489, 16686609, 16731851, 16777216,
 ];
 
-// The table, to keep and to lend. Its contract holds the constant to the definition, and to the rule.
+// The table, lent. Its contract holds the static to the definition, and to the rule.
 pub fn power_table() -> &'static [u32; 257]
     ensures value { result.now ≡ entries }
     ensures rule { (k : ℕ) → k < 257 → Entry k (get_or result.now k 0) }

@@ -1,5 +1,5 @@
 // The square root: the f32 nearest the exact root, ties to even.
-ghost use Rattle.std.specs.Prelude.{◌≡◌, ℕ, ◌-◌, ◌*◌, ◌^◌, ◌≤◌, ◌<◌, false};
+ghost use Rattle.std.specs.Prelude.{◌≡◌, ℕ, ◌-◌, ◌*◌, ◌^◌, ◌≤◌, ◌<◌, true, false};
 ghost use Rattle.std.specs.Float.{binary32};
 ghost use Rattle.std.specs.Float.Ieee.{of_bits, is_nan};
 ghost use Rattle.std.specs.Float.Ieee.Exact.{HasValue};
@@ -122,14 +122,32 @@ fn rounded_root(n: u64) -> u64
     if r * r + r < n { r + 1 } else { r }
 }
 
-// The same, by a guess. Of 365 guesses 364 are the number, and then the result waits for no loop.
+// Whether r is that number.
+fn is_nearest(n: u64, r: u64) -> bool
+    requires fact_1 { (2 ^ 46 ≤ n) × (n ≤ 2 ^ 48 - 2 ^ 24) }
+    requires fact_2 { r < 2 ^ 32 }
+    ensures { result ≡ true → NearestRoot n r }
+{
+    r * r < n + r && n <= r * r + r
+}
+
+// The same, by a guess. Of 365 guesses 364 are the number, but near 1 every second one is off, by 1: then its neighbour
+// is, and the loops of `isqrt` are for other guesses alone.
 fn nearest_root(n: u64, near: u64) -> u64
     requires fact_1 { (2 ^ 46 ≤ n) × (n ≤ 2 ^ 48 - 2 ^ 24) }
     requires fact_2 { near < 2 ^ 32 }
     ensures { NearestRoot n result }
 {
-    if near * near < n + near && n <= near * near + near {
+    if is_nearest(n, near) {
         return near;
+    }
+    let next = if n < near * near {
+        near.saturating_sub(1)
+    } else {
+        (near + 1).min(0xffff_ffff)
+    };
+    if is_nearest(n, next) {
+        return next;
     }
     rounded_root(n)
 }

@@ -17,7 +17,7 @@ pub const AMOUNTS: u32 = 10001;
 
 // The same in 16 bits: of so small a number the compiler knows that its upper half is 0, and makes it a float in less
 // time, a tenth of a search's.
-const COUNT: u16 = 10001;
+const COUNT: u16 = AMOUNTS as u16;
 
 // How many of them are tried at a time: so many fit in a small array, and few are tried in vain past the
 // one that serves.

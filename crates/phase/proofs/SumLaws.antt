@@ -124,7 +124,7 @@ module _ (sk ak table : List Float) where
   started_by None word = refl
   started_by (Some m) word = refl
 
-  started : (setting : Option MapSetting) (word : ℕ) (b : Branches) → Makes b (map_if sk ak table setting word) → apply_if sk ak table setting (start_of word) ≡ appended b (none word true)
+  pub started : (setting : Option MapSetting) (word : ℕ) (b : Branches) → Makes b (map_if sk ak table setting word) → apply_if sk ak table setting (start_of word) ≡ appended b (none word true)
   started setting word b e = started_by setting word ∙ sym (e (none word true))
 
   one_mapped : (k : BranchKind) (m : MapSetting) (like : ℕ) (b : Branches) → is_both k ≡ false → applied m (appended_as k b (none like true)) ≡ made m b.first.word b.first.gain (none b.first.word (is_one k))

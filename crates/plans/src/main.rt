@@ -20,28 +20,51 @@ fn print_entry(rt: &impl Print, number: u64, line: &[u8]) -> io::Result<()> {
     rt.print(Entry { number, plans })
 }
 
-fn main(rt: HostRuntime) -> io::Result<()> {
-    rt.print(HEADING)?;
-    let mut line = Line::new();
-    // Counts lines and not turns: most bytes end none.
-    let mut number = 1;
-    // With no buffer, so that no memory is asked for; the input is short.
-    for byte in rt.stdin().bytes() {
-        // An input that cannot be read ends there, and what came of its last line is dropped.
-        let Ok(byte) = byte else {
-            return rt.println("the input cannot be read any further");
-        };
-        if number > LINES {
-            return println!(rt; "the input has more than {LINES} lines: the rest was not read");
+// How far the lines are read: the one that has begun, and its number, which counts lines and not bytes.
+#[derive(Clone, Copy)]
+struct Begun {
+    line: Line,
+    number: u64,
+}
+
+// Prints what the table has for each line that ends among these bytes. Whether more came than the lines that are read.
+fn print_lines(rt: &HostRuntime, begun: &mut Begun, bytes: &[u8]) -> io::Result<bool> {
+    for byte in bytes {
+        if begun.number > LINES {
+            return Ok(true);
         }
-        line.push(byte);
-        if let Some(bytes) = line.ended() {
-            print_entry(&rt, number, bytes)?;
-            number += 1;
+        begun.line.push(*byte);
+        if let Some(line) = begun.line.ended() {
+            print_entry(rt, begun.number, line)?;
+            begun.number += 1;
         }
     }
-    if let Some(bytes) = line.left_over() {
-        print_entry(&rt, number, bytes)?;
+    Ok(false)
+}
+
+fn main(rt: HostRuntime) -> io::Result<()> {
+    rt.print(HEADING)?;
+    let mut begun = Begun {
+        line: Line::new(),
+        number: 1,
+    };
+    // On the stack, so that no memory is asked for.
+    let mut bytes = [0; 4096];
+    // A proved loop has to end, and nothing says that an input does: no run uses these turns up.
+    for _ in 0..u64::MAX {
+        // An input that cannot be read ends there, and what came of its last line is dropped.
+        let Ok(count) = rt.stdin().read(&mut bytes) else {
+            return rt.println("the input cannot be read any further");
+        };
+        if count == 0 {
+            break;
+        }
+        if print_lines(&rt, &mut begun, &bytes[..count])? {
+            return println!(rt; "the input has more than {LINES} lines: the rest was not read");
+        }
+    }
+    if let Some(bytes) = begun.line.left_over() {
+        print_entry(&rt, begun.number, bytes)?;
     }
     Ok(())
 }

@@ -1,9 +1,11 @@
--- The slices that a block run is lent, by their lists. Definitions only.
+-- What a block run is lent: the slices by their lists, and a lane's block. Definitions only.
 use Rattle.std.specs.Prelude.{List, Float}
 use Rattle.controls.specs.Slices.{control_lists}
 use Rattle.render.specs.declared.lent.Rows.{Rows}
 use Rattle.render.specs.declared.lent.LentSlices.{LentSlices}
 use Rattle.render.specs.declared.lent.AcceptedSlices.{AcceptedSlices}
+use Rattle.render.specs.declared.state.BlockSettings.{BlockSettings}
+use Rattle.render.specs.declared.state.LaneRange.{LaneRange}
 use Rattle.render.specs.Lane.{Lent}
 
 -- rows beside a curve and a cycle
@@ -23,3 +25,7 @@ accepted_lists l = rows_with l.rows l.curve.values.now l.cycle.samples.now
 
 abbrev pub lent_lists : LentSlices → Lent
 lent_lists l = rows_with l.rows l.curve.now l.cycle.now
+
+-- the block of a lane's share
+abbrev pub block_of : LaneRange → BlockSettings
+block_of p = record { shaper = p.shaper; rate = p.rate; designs = p.designs.now }

@@ -70,7 +70,15 @@ fn level_frame(slots: Slots, cycle: Cycle<'_>, word: u32, v: Voice) -> Stepped
     requires stateless1 { has_state slots.slot1.slot.mode ≡ false }
     ensures { Levelled result slots.slot0.slot slots.slot1.slot cycle.entry.samples.now slots.slot0.control slots.slot1.control word v }
 {
-    let shaped = shape_level(slots, cycle.read(word), v.wave_state());
+    let Slots { slot0, slot1 } = slots;
+    let shaped = shape_level(
+        slot0.slot,
+        slot0.control,
+        slot1.slot,
+        slot1.control,
+        cycle.read(word),
+        v.wave_state(),
+    );
     Stepped {
         sample: shaped.y,
         voice: Voice {

@@ -3,7 +3,7 @@ ghost use Rattle.std.specs.Prelude.{◌≡◌, ◌≤◌, length};
 ghost use Rattle.limits.specs.Lengths.{rendered_length};
 ghost use Rattle.render.specs.Lane.{inputs_in, first_frame, frame_count};
 ghost use Rattle.render.specs.Promises.{Readable};
-ghost use Rattle.render.specs.Slices.{accepted_lists};
+ghost use Rattle.render.specs.Slices.{accepted_lists, block_of};
 ghost use Rattle.render.specs.Frames.{Stills, Frames};
 
 use crate::drives::still_drive;
@@ -18,26 +18,26 @@ use voice::fm_scale;
 // What the still drives are is asked here and in host.rt: it goes by the settings and the rows, which no struct of
 // drives has.
 fn render_hosts(
-    part: LaneRange,
+    part: LaneRange<'_>,
     still0: Drive,
     still1: Drive,
     v: Voice,
     lent: AcceptedSlices<'_>,
     work: &mut [f32],
 ) -> Voice
-    requires stills { Stills part.block.shaper part.lane lent.rows.controls.base0.now lent.rows.controls.base1.now still0 still1 }
-    requires readable { Readable part.block.shaper (accepted_lists lent) }
-    requires writable { rendered_length part.range.count part.block.shaper.factor part.block.shaper.lanes ≤ length work.old }
-    ensures { Frames part.block
-        (inputs_in part.block.shaper (accepted_lists lent.entry) part.lane)
-        part.lane (first_frame part.block part.range) 0 (frame_count part.block part.range) v result work.old work.new }
+    requires stills { Stills part.shaper part.lane lent.rows.controls.base0.now lent.rows.controls.base1.now still0 still1 }
+    requires readable { Readable part.shaper (accepted_lists lent) }
+    requires writable { rendered_length part.range.count part.shaper.factor part.shaper.lanes ≤ length work.old }
+    ensures { Frames (block_of part.entry)
+        (inputs_in part.entry.shaper (accepted_lists lent.entry) part.entry.lane)
+        part.entry.lane (first_frame (block_of part.entry) part.entry.range) 0 (frame_count (block_of part.entry) part.entry.range) v result work.old work.new }
 {
-    let s = part.block.shaper;
+    let s = part.shaper;
     let lane = part.lane;
     let factor = s.factor as usize;
     let first = part.range.first as usize;
     let count = part.range.count as usize;
-    let scale = fm_scale(part.block.rate, s.factor);
+    let scale = fm_scale(part.rate, s.factor);
     let mut state = v;
     // Over a range: the counter is the host frame's number, which the frame is told, and no place in a slice.
     for k in 0..count {
@@ -58,14 +58,19 @@ fn render_hosts(
 }
 
 // The rendered frames of the range, into the work rows from the first on; the lane's state after them.
-pub fn render_lane(part: LaneRange, v: Voice, lent: AcceptedSlices<'_>, work: &mut [f32]) -> Voice
-    requires readable { Readable part.block.shaper (accepted_lists lent) }
-    requires writable { rendered_length part.range.count part.block.shaper.factor part.block.shaper.lanes ≤ length work.old }
-    ensures { Frames part.block
-        (inputs_in part.block.shaper (accepted_lists lent.entry) part.lane)
-        part.lane (first_frame part.block part.range) 0 (frame_count part.block part.range) v result work.old work.new }
+pub fn render_lane(
+    part: LaneRange<'_>,
+    v: Voice,
+    lent: AcceptedSlices<'_>,
+    work: &mut [f32],
+) -> Voice
+    requires readable { Readable part.shaper (accepted_lists lent) }
+    requires writable { rendered_length part.range.count part.shaper.factor part.shaper.lanes ≤ length work.old }
+    ensures { Frames (block_of part.entry)
+        (inputs_in part.entry.shaper (accepted_lists lent.entry) part.entry.lane)
+        part.entry.lane (first_frame (block_of part.entry) part.entry.range) 0 (frame_count (block_of part.entry) part.entry.range) v result work.old work.new }
 {
-    let s = part.block.shaper;
+    let s = part.shaper;
     let lane = part.lane;
     let mode0 = s.slot0.mode;
     let mode1 = s.slot1.mode;

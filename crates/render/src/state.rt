@@ -16,14 +16,17 @@ pub struct BlockSettings {
     pub designs: Designs,
 }
 
-// A lane's share of a range of a block, within the limits.
+// A lane's share of a range of a block, within the limits. The designs alone are lent: a copy of them for each lane took
+// a quarter of a call's time where ranges are short and lanes are many.
 #[derive(Clone, Copy)]
-pub struct LaneRange {
-    pub block: BlockSettings,
+pub struct LaneRange<'a> {
+    pub shaper: Settings,
+    pub rate: u32,
+    pub designs: &'a Designs,
     pub range: Range,
     pub lane: usize,
-    ghost limits: { Limits block range },
-    ghost inside: { lane < block.shaper.lanes },
+    ghost limits: { Limits (record { shaper = shaper; rate = rate; designs = designs.now }) range },
+    ghost inside: { lane < shaper.lanes },
 }
 
 // A lane's filter pairs, FM carry and `last`.

@@ -5,7 +5,7 @@ ghost use Rattle.grid.specs.Functions.{span};
 ghost use Rattle.grid.specs.Cells.{col, columns};
 ghost use Rattle.grid.specs.Lanes.{Each};
 ghost use Rattle.render.specs.Promises.{Readable};
-ghost use Rattle.render.specs.Slices.{lent_lists};
+ghost use Rattle.render.specs.Slices.{lent_lists, block_of};
 ghost use Rattle.share.specs.Share.{buffers};
 ghost use Rattle.share.specs.Promises.{Writable, Copied, Shared};
 
@@ -34,7 +34,7 @@ fn copy_lane(first: usize, count: usize, lane: Lane, work: &[f32], output: &mut 
 // state is carried on. The six slices that are written stay parameters, here and above: out of a struct, what
 // they end as at an edge to C is told by names of the check's own alone.
 pub fn run_lane(
-    part: LaneRange,
+    part: LaneRange<'_>,
     lent: &LentSlices<'_>,
     output: &mut [f32],
     work: &mut [f32],
@@ -43,13 +43,13 @@ pub fn run_lane(
     last: &mut [f32],
     dec: &mut [f32],
 )
-    requires readable { Readable part.block.shaper (lent_lists lent.now) }
-    requires writable { Writable part.block.shaper part.range (buffers output.old work.old pairs.old fm.old last.old dec.old) }
-    ensures { Shared part.block part.range (lent_lists lent.now) part.lane (part.lane + 1)
+    requires readable { Readable part.shaper (lent_lists lent.now) }
+    requires writable { Writable part.shaper part.range (buffers output.old work.old pairs.old fm.old last.old dec.old) }
+    ensures { Shared (block_of part.entry) part.entry.range (lent_lists lent.now) part.entry.lane (part.entry.lane + 1)
         (buffers output.old work.old pairs.old fm.old last.old dec.old)
         (buffers output.new work.new pairs.new fm.new last.new dec.new) }
 {
-    let s = part.block.shaper;
+    let s = part.shaper;
     let at = Lane {
         lanes: s.lanes as usize,
         index: part.lane,
@@ -69,13 +69,6 @@ pub fn run_lane(
     let v = load_voice(at, pairs, fm, last);
     let end = render_lane(part, v, accepted, work);
     store_voice(at, end, pairs, fm, last);
-    decimate_lane(
-        &part.block.designs,
-        stages_of(s.factor),
-        count,
-        at,
-        work,
-        dec,
-    );
+    decimate_lane(part.designs, stages_of(s.factor), count, at, work, dec);
     copy_lane(first, count, at, work, output);
 }

@@ -13,18 +13,22 @@ use borrow.Author.Tests.{eq-eqb, ne_eqb, lt-ltb, ltb-true, ltb-false}
 use Rattle.text.specs.Lines.{unless_empty, begun, with_byte}
 use Rattle.text.specs.Buffers.{Held, reading, begun_length, left_over}
 
+-- a length above the buffer's counts as the buffer's
+pub kept_taken : (buffer : List ℕ) (n : ℕ) → length buffer ≡ 255 → take (min n 255) buffer ≡ take n buffer
+kept_taken buffer n full = by_length (ltb n 255) refl
+  where
+    by_length : (t : Bool) → ltb n 255 ≡ t → take (min n 255) buffer ≡ take n buffer
+    by_length true h = rw (min-eq_left (le_of_lt (ltb-true n 255 h)))
+    by_length false h = rw (min-eq_right (ltb-false n 255 h), take_all 255 buffer (omega arith), take_all n buffer (omega (arith, ltb-false n 255 h)))
+
 -- the buffer's bytes that a further one comes after
 pub begun_taken : (buffer : List ℕ) (l : Held) → length buffer ≡ 255 → take (begun_length l) buffer ≡ begun (reading buffer l)
 unfolding begun_length begun
 begun_taken buffer l full = by_end l.ended
   where
-    by_length : (t : Bool) → ltb l.length 255 ≡ t → take (min l.length 255) buffer ≡ take l.length buffer
-    by_length true h = rw (min-eq_left (le_of_lt (ltb-true l.length 255 h)))
-    by_length false h = rw (min-eq_right (ltb-false l.length 255 h), take_all 255 buffer (omega arith), take_all l.length buffer (omega (arith, ltb-false l.length 255 h)))
-
     by_end : (t : Bool) → take (cond t 0 (min l.length 255)) buffer ≡ cond t [] (take l.length buffer)
     by_end true = refl
-    by_end false = by_length (ltb l.length 255) refl
+    by_end false = kept_taken buffer l.length full
 
 module _ (buffer : List ℕ) (l : Held) (full : length buffer ≡ 255) (b at : ℕ) (place : at ≡ begun_length l) where
   -- the bytes that have begun, by their number

@@ -1,7 +1,7 @@
 // Runs of the block run: designs, a block's numbers and its buffers are remade from a seed, its spans
 // are prepared, and then its ranges are rendered one after another on the same buffers. At the most four
 // lanes and 40 host frames. Some calls are made to be turned down.
-use crate::renders::Asked;
+use crate::renders::{Asked, Calls};
 use crate::settings::{block_of, faulted};
 use answers::cells::cell;
 use answers::decimations::designs;
@@ -17,17 +17,11 @@ use call_answers::faults::{Fault, cut, fault_of_block};
 use call_answers::numbers::{Draws, active_of, active_with, below};
 use call_answers::stretches::Spans;
 use controls::ControlSlices;
-use limits::{Answer, Refusal};
+use limits::Answer;
 
-// Each call is about the frames behind the last one's, after the block's end from its start again. `render` makes a
-// range; where it has no one answer the hash comes out wrong.
-pub fn block_hash<F: Fn(&Asked<'_>, &mut Voices) -> Option<Result<u32, Refusal>>>(
-    table: &[f32; 1025],
-    run: ModesRun,
-    render: F,
-) -> u64
-    requires { F.IsAlwaysCallable render }
-{
+// Each range is about the frames behind the last one's, after the block's end from its start again. Where its calls
+// have no one answer the hash comes out wrong.
+pub fn block_hash(table: &[f32; 1025], run: ModesRun, calls: Calls) -> u64 {
     let seed = run.seed;
     let mut random = Random::new(seed);
     let designs = designs(seed, &mut random);
@@ -69,7 +63,7 @@ pub fn block_hash<F: Fn(&Asked<'_>, &mut Voices) -> Option<Result<u32, Refusal>>
             fault,
             frames: s.frames,
         };
-        if let Some(outcome) = render(&asked, &mut voices) {
+        if let Some(outcome) = calls.render(&asked, &mut voices) {
             let a = Answer::from(outcome);
             hash.put(a.number);
             hash.put(a.frames);

@@ -2,18 +2,17 @@
 // a picture, pass, 4,097 is 4; a curve of 1,025 entries passes, one of 1,024 is 7. The calls are asked with
 // lengths alone.
 use block::{CallNumbers, ReadLengths, WriteLengths};
-use curve::Curve;
 use limits::{ControlLengths, Refusal};
 use spans::{PrepareLengths, PrepareNumbers};
 
-// What a call is asked for, and why it is turned down, if it is.
+// What a call is asked for, and the number that C hears of it.
 #[derive(Clone, Copy)]
 struct Boundary {
     mode: u32,
     lanes: u32,
     frames: u32,
     entries: usize,
-    refusal: Option<Refusal>,
+    number: u32,
 }
 
 // Every boundary passed at once.
@@ -22,7 +21,7 @@ const PASSED: Boundary = Boundary {
     lanes: 64,
     frames: 4096,
     entries: 1025,
-    refusal: None,
+    number: 0,
 };
 
 // As long as the longest buffer that a call asks for: 8 x 4,096 x 64 cells.
@@ -110,18 +109,23 @@ fn check_picture(b: Boundary) -> Result<(), Refusal> {
 
 fn check_curve(b: Boundary) -> Result<(), Refusal> {
     let whole = [0.0f32; 1025];
-    Curve::new(whole.get(..b.entries).unwrap_or(&whole))?;
+    curve::value(whole.get(..b.entries).unwrap_or(&whole), 0.5)?;
     Ok(())
 }
 
-// Whether each call is turned down for this, or is accepted where it has no such line.
+// Whether each call answers this number, or 0 where it has no such line.
 fn is_kept(b: Boundary) -> bool {
-    let among = |lines: &[Refusal]| b.refusal.filter(|refusal| lines.contains(refusal));
-    check_preparation(b).err() == b.refusal
-        && check_run(b).err() == b.refusal
-        && check_decimation(b).err() == among(&[Refusal::Lanes, Refusal::Frames])
-        && check_curve(b).err() == among(&[Refusal::ShortRead])
-        && check_picture(b).err() == among(&[Refusal::Mode, Refusal::Frames, Refusal::ShortRead])
+    let number = |outcome: Result<(), Refusal>| outcome.err().map_or(0, u32::from);
+    let among = |lines: &[u32]| if lines.contains(&b.number) {
+        b.number
+    } else {
+        0
+    };
+    number(check_preparation(b)) == b.number
+        && number(check_run(b)) == b.number
+        && number(check_decimation(b)) == among(&[3, 4])
+        && number(check_curve(b)) == among(&[7])
+        && number(check_picture(b)) == among(&[1, 4, 7])
 }
 
 // How many there are: every boundary passed at once, then each of them missed.
@@ -133,22 +137,22 @@ pub fn boundaries_kept() -> u64 {
         PASSED,
         Boundary {
             mode: 70,
-            refusal: Some(Refusal::Mode),
+            number: 1,
             ..PASSED
         },
         Boundary {
             lanes: 65,
-            refusal: Some(Refusal::Lanes),
+            number: 3,
             ..PASSED
         },
         Boundary {
             frames: 4097,
-            refusal: Some(Refusal::Frames),
+            number: 4,
             ..PASSED
         },
         Boundary {
             entries: 1024,
-            refusal: Some(Refusal::ShortRead),
+            number: 7,
             ..PASSED
         },
     ];

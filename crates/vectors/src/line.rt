@@ -1,4 +1,5 @@
 // A line of the vectors.
+ghost use Rattle.std.specs.Prelude.{◌<◌};
 
 // A line's bytes, the newline among them.
 pub const LENGTH: usize = 39;
@@ -32,7 +33,9 @@ fn number(digits: &[u8]) -> u32 {
 }
 
 // What is no digit counts as 0. By hand, since `to_digit` and `from_str_radix` take capitals, and the latter a sign.
-fn digit(byte: u8) -> u8 {
+fn digit(byte: u8) -> u8
+    ensures { result < 16 }
+{
     match byte {
         b'0'..=b'9' => byte - b'0',
         b'a'..=b'f' => byte - b'a' + 10,

@@ -23,7 +23,7 @@ use file_answers::runs::file_hash;
 use level_answers::searches::level_hash;
 use line::{LENGTH, Line};
 use picture_answers::pictures::picture_hash;
-use renders::{by_block, by_lanes};
+use renders::Calls;
 use std::io;
 use std::io::Read;
 
@@ -74,7 +74,7 @@ fn hashed(table: &[f32; 1025], op: u32, words: [u32; 2]) -> Hashed {
         0x50 => reads_hash(table, run),
         0x51 => samples_hash(run),
         0x52 => spans_hash(run),
-        BLOCK => block_hash(table, run, by_block),
+        BLOCK => block_hash(table, run, Calls::Block),
         0x61 => picture_hash(&curve_of(table, run.seed), run),
         0x62 => file_hash(run),
         0x63 => level_hash(run),
@@ -91,7 +91,7 @@ fn hashed_by_lanes(table: &[f32; 1025], words: [u32; 2]) -> Hashed {
     let run = ModesRun::new(words);
     Hashed {
         count: u64::from(run.count),
-        hash: block_hash(table, run, by_lanes),
+        hash: block_hash(table, run, Calls::Lanes),
     }
 }
 

@@ -58,15 +58,11 @@ fn run(asked: &Asked<'_>, lane: Option<u32>, v: &mut Voices) -> Result<u32, Refu
     }
 }
 
-pub fn by_block(asked: &Asked<'_>, voices: &mut Voices) -> Option<Result<u32, Refusal>> {
-    Some(run(asked, None, voices))
-}
-
 // A call for each active lane, the last one first, which leave what the block run leaves: what they answer, all
 // alike; nothing where two differ. With no active lane there is none to call.
-pub fn by_lanes(asked: &Asked<'_>, voices: &mut Voices) -> Option<Result<u32, Refusal>> {
+fn by_lanes(asked: &Asked<'_>, voices: &mut Voices) -> Option<Result<u32, Refusal>> {
     if asked.active == 0 {
-        return by_block(asked, voices);
+        return Some(run(asked, None, voices));
     }
     // A flag and no early return: all lanes are called, also where two differ.
     let mut alike = true;
@@ -78,4 +74,21 @@ pub fn by_lanes(asked: &Asked<'_>, voices: &mut Voices) -> Option<Result<u32, Re
         outcome = next;
     }
     if alike { outcome } else { None }
+}
+
+// The calls that make a range: one for the block, or one for each lane.
+#[derive(Clone, Copy)]
+pub enum Calls {
+    Block,
+    Lanes,
+}
+
+impl Calls {
+    // What they answer; nothing where that is no one answer.
+    pub fn render(self, asked: &Asked<'_>, voices: &mut Voices) -> Option<Result<u32, Refusal>> {
+        match self {
+            Calls::Block => Some(run(asked, None, voices)),
+            Calls::Lanes => by_lanes(asked, voices),
+        }
+    }
 }

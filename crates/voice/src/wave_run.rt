@@ -82,31 +82,36 @@ pub fn has_state(mode: u32) -> bool
 }
 
 // What a slot without a state makes of the sample.
-fn level_of(driven: Driven, x: f32) -> f32
-    requires { has_state driven.slot.mode ≡ false }
-    ensures { Passes result driven.slot driven.control x }
+fn level_of(slot: Slot, control: Control, x: f32) -> f32
+    requires { has_state slot.mode ≡ false }
+    ensures { Passes result slot control x }
 {
-    let mode = driven.slot.mode;
+    let mode = slot.mode;
     if !in_wave(mode) {
         return x;
     }
-    let Control { amount, source } = driven.control;
+    let Control { amount, source } = control;
     level(mode, level_setting(amount, source), x)
 }
 
-// `shape_of` where no slot has a state: no number of the sine is asked for, and the step is not looked at.
-pub fn shape_level(slots: Slots, x: f32, state: WaveState) -> Shaped
-    requires stateless0 { has_state slots.slot0.slot.mode ≡ false }
-    requires stateless1 { has_state slots.slot1.slot.mode ≡ false }
-    ensures { ShapedBy result slots.slot0.slot slots.slot1.slot slots.slot0.control slots.slot1.control
-        x state.pairs0 state.pairs1 state.last }
+// `shape_of` where no slot has a state: no number of the sine is asked for, no power, and the step is not looked at.
+pub fn shape_level(
+    slot0: Slot,
+    control0: Control,
+    slot1: Slot,
+    control1: Control,
+    x: f32,
+    state: WaveState,
+) -> Shaped
+    requires stateless0 { has_state slot0.mode ≡ false }
+    requires stateless1 { has_state slot1.mode ≡ false }
+    ensures { ShapedBy result slot0 slot1 control0 control1 x state.pairs0 state.pairs1 state.last }
 {
-    let Slots { slot0, slot1 } = slots;
     Shaped {
-        y: level_of(slot1, level_of(slot0, x)),
+        y: level_of(slot1, control1, level_of(slot0, control0, x)),
         pairs0: state.pairs0,
         pairs1: state.pairs1,
-        last: kept(slot0.slot.mode, slot1.slot.mode, x, state.last),
+        last: kept(slot0.mode, slot1.mode, x, state.last),
     }
 }
 
@@ -118,5 +123,13 @@ pub fn shape_of(numbers: Numbers, slots: Slots, step: u32, x: f32, state: WaveSt
     if has_state(slots.slot0.slot.mode) | has_state(slots.slot1.slot.mode) {
         return shape_stated(numbers, slots, step, x, state);
     }
-    shape_level(slots, x, state)
+    let Slots { slot0, slot1 } = slots;
+    shape_level(
+        slot0.slot,
+        slot0.control,
+        slot1.slot,
+        slot1.control,
+        x,
+        state,
+    )
 }

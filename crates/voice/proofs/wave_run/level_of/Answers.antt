@@ -6,9 +6,9 @@ use Rattle.voice.proofs.wave_run.level_of.Goals as goal
 
 pub returns-then-not-in_wave : goal.returns-then-not-in_wave
 returns-then-not-in_wave c = λ sk increment state.
-    not_wave sk c.args.driven.slot c.args.driven.control increment c.args.x state (sym c.in_wave.ensures ∙ c.if-not-in_wave.true)
+    not_wave sk c.args.slot c.args.control increment c.args.x state (sym c.in_wave.ensures ∙ c.if-not-in_wave.true)
 
 pub returns : goal.returns
 returns c = λ sk increment state.
     rw (c.level.ensures, c.level_setting.ensures)
-    (no_state sk c.args.driven.slot c.args.driven.control increment c.args.x state c.requires (sym c.in_wave.ensures ∙ c.if-not-in_wave.false))
+    (no_state sk c.args.slot c.args.control increment c.args.x state c.requires (sym c.in_wave.ensures ∙ c.if-not-in_wave.false))
